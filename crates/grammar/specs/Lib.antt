@@ -1,0 +1,5 @@
+pub mod Arguments
+pub mod Forms
+pub mod Kinds
+pub mod Numbers
+pub mod Words

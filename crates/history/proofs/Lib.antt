@@ -1,0 +1,4 @@
+pub mod Cash
+pub mod Facts
+pub mod Opening
+pub mod Refused

@@ -1,0 +1,3 @@
+-- What the contracts of this crate, and of the crates above it, speak of.
+pub mod Figures
+pub mod Units

@@ -1,0 +1,5 @@
+-- What the contracts of this crate, and of the crates above it, speak of.
+pub mod Opening
+pub mod Phases
+pub mod Records
+pub mod Refusals

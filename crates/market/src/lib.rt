@@ -1,0 +1,24 @@
+// The words that the whole house shares: sides and records, phases and events, refusals, and the price record of a contract.
+mod blanks;
+pub mod opening;
+pub mod phase;
+pub mod records;
+pub mod refusal;
+
+pub use blanks::LotBlank;
+pub use blanks::OrderBlank;
+pub use blanks::TradeBlank;
+pub use opening::MAX_PRICE;
+pub use opening::MAX_RATE;
+pub use opening::Opening;
+pub use opening::WHOLE;
+pub use phase::Event;
+pub use phase::Phase;
+pub use records::Lot;
+pub use records::Order;
+pub use records::Side;
+pub use records::Trade;
+pub use refusal::Refusal;
+
+#[cfg(test)]
+mod tests;

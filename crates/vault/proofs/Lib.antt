@@ -1,0 +1,4 @@
+pub mod Passing
+pub mod Clearing
+pub mod Postings
+pub mod Movements
