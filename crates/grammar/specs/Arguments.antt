@@ -11,7 +11,8 @@ use Rattle.std.specs.declared.option.Option.the-variants.{Some, None}
 use Rattle.std.specs.shelf.Text.{sameBytes}
 use Rattle.grammar.specs.Words.{next-word, next-number}
 use Rattle.grammar.specs.declared.commands.Command.{Command}
-use Rattle.grammar.specs.declared.commands.Command.the-variants.{Lend, GasRule, HubRule, Open, Deposit, Withdraw, Requirement, Show}
+use Rattle.grammar.specs.declared.commands.Command.the-variants.{Lend, GasRule, HubRule, Open, Deposit, Withdraw, Halt, Resume, Requirement, Show}
+use Rattle.grammar.specs.declared.commands.Command.the-variants as command
 use Rattle.grammar.specs.declared.commands.VaultKind.{VaultKind}
 use Rattle.grammar.specs.declared.commands.VaultKind.the-variants.{Table, Journal}
 use Rattle.grammar.specs.declared.commands.What.{What}
@@ -55,6 +56,16 @@ deposit left = then (payment left) (λ p. Some (Deposit (p .0) (p .1)))
 
 abbrev pub withdraw : Option (List ℕ) → Option Command
 withdraw left = then (payment left) (λ p. Some (Withdraw (p .0) (p .1)))
+
+abbrev pub list : Option (List ℕ) → Option Command
+list left =
+    then (next-number 255 left) (λ contract. then (next-number 4294967295 (contract .1)) (λ price. then (next-number 4294967295 (price .1)) (λ rate. ended (rate .1) (command.List (contract .0) (price .0) (rate .0)))))
+
+abbrev pub halt : Option (List ℕ) → Option Command
+halt left = then (next-number 255 left) (λ contract. ended (contract .1) (Halt (contract .0)))
+
+abbrev pub resume : Option (List ℕ) → Option Command
+resume left = then (next-number 255 left) (λ contract. then (next-number 4294967295 (contract .1)) (λ price. ended (price .1) (Resume (contract .0) (price .0))))
 
 abbrev pub requirement : Option (List ℕ) → Option Command
 requirement left = then (next-number 255 left) (λ member. ended (member .1) (Requirement (member .0)))

@@ -9,7 +9,8 @@ use Rattle.std.specs.declared.result.Result.{Result}
 use Rattle.std.specs.declared.result.Result.the-variants.{Ok, Err}
 use Rattle.grammar.specs.Forms.{meaning}
 use Rattle.grammar.specs.declared.commands.Command.{Command}
-use Rattle.grammar.specs.declared.commands.Command.the-variants.{Lend, GasRule, HubRule, Open, Deposit, Withdraw, Step, Requirement, Show, NotBuilt}
+use Rattle.grammar.specs.declared.commands.Command.the-variants.{Lend, GasRule, HubRule, Open, Deposit, Withdraw, Halt, Resume, Step, Requirement, Show, NotBuilt}
+use Rattle.grammar.specs.declared.commands.Command.the-variants as command
 use Rattle.grammar.specs.declared.commands.Lending.{Lending}
 use Rattle.grammar.specs.declared.commands.VaultKind.the-variants.{Table}
 use Rattle.grammar.specs.declared.forms.Form.{Form}
@@ -27,6 +28,9 @@ is-call (HubRule t s) = false
 is-call (Open m y n) = true
 is-call (Deposit m a) = true
 is-call (Withdraw m a) = true
+is-call (command.List c p r) = true
+is-call (Halt c) = true
+is-call (Resume c p) = true
 is-call Step = true
 is-call (Requirement m) = true
 is-call (Show w) = false
@@ -40,6 +44,9 @@ out-of-place begun (HubRule t s) = false
 out-of-place begun (Open m y n) = false
 out-of-place begun (Deposit m a) = false
 out-of-place begun (Withdraw m a) = false
+out-of-place begun (command.List c p r) = false
+out-of-place begun (Halt c) = false
+out-of-place begun (Resume c p) = false
 out-of-place begun Step = false
 out-of-place begun (Requirement m) = false
 out-of-place begun (Show w) = false
@@ -86,6 +93,9 @@ lending-command (HubRule t s) = default-lending
 lending-command (Open m y n) = default-lending
 lending-command (Deposit m a) = default-lending
 lending-command (Withdraw m a) = default-lending
+lending-command (command.List c p r) = default-lending
+lending-command (Halt c) = default-lending
+lending-command (Resume c p) = default-lending
 lending-command Step = default-lending
 lending-command (Requirement m) = default-lending
 lending-command (Show w) = default-lending

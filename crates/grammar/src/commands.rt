@@ -24,6 +24,18 @@ pub enum Command {
         member: u8,
         amount: u64,
     }, // kuruş
+    List {
+        contract: u8,
+        price: u32,
+        rate: u32,
+    }, // kuruş per thousand Sm³, hundredths of a percent
+    Halt {
+        contract: u8,
+    },
+    Resume {
+        contract: u8,
+        price: u32,
+    }, // kuruş per thousand Sm³
     Step,
     Requirement {
         member: u8,

@@ -2,7 +2,7 @@
 ghost use mathlib.Core.Path.{_≡_};
 ghost use Rattle.std.specs.Options.{mapped};
 ghost use Rattle.grammar.specs.Forms.{asked, meaning};
-ghost use Rattle.grammar.specs.Arguments.{ended, next-length, vault-kind, lend, rule, open-house, payment, requirement, what-named, show};
+ghost use Rattle.grammar.specs.Arguments.{ended, next-length, vault-kind, lend, rule, open-house, payment, list, halt, resume, requirement, what-named, show};
 use crate::commands::Command;
 use crate::commands::Lending;
 use crate::commands::MAX_LENGTH;
@@ -47,6 +47,9 @@ fn arguments(form: Form, rest: Rest<'_>) -> Option<Command>
             let (member, amount) = payment(rest)?;
             Some(Command::Withdraw { member, amount })
         }
+        Form::List => list(rest),
+        Form::Halt => halt(rest),
+        Form::Resume => resume(rest),
         Form::Step => ended(rest, Command::Step),
         Form::Requirement => requirement(rest),
         Form::Show => show(rest),
@@ -151,6 +154,37 @@ fn payment(rest: Rest<'_>) -> Option<(u8, u64)>
         None => Some((member, amount)),
         Some(_) => None,
     }
+}
+
+fn list(rest: Rest<'_>) -> Option<Command>
+    ensures { λ r. ⌜ r ≡ list (mapped now (rest .entry)) ⌝ }
+{
+    let (contract, rest) = next_u8(rest)?;
+    let (price, rest) = next_u32(rest)?;
+    let (rate, rest) = next_u32(rest)?;
+    ended(
+        rest,
+        Command::List {
+            contract,
+            price,
+            rate,
+        },
+    )
+}
+
+fn halt(rest: Rest<'_>) -> Option<Command>
+    ensures { λ r. ⌜ r ≡ halt (mapped now (rest .entry)) ⌝ }
+{
+    let (contract, rest) = next_u8(rest)?;
+    ended(rest, Command::Halt { contract })
+}
+
+fn resume(rest: Rest<'_>) -> Option<Command>
+    ensures { λ r. ⌜ r ≡ resume (mapped now (rest .entry)) ⌝ }
+{
+    let (contract, rest) = next_u8(rest)?;
+    let (price, rest) = next_u32(rest)?;
+    ended(rest, Command::Resume { contract, price })
 }
 
 fn requirement(rest: Rest<'_>) -> Option<Command>

@@ -15,9 +15,14 @@ use Rattle.market.specs.declared.refusal.Refusal.{Refusal}
 use Rattle.vault.specs.Checks.{first-that-holds}
 use Rattle.vault.specs.Cash.{Cash, Whole, balance, moved, credited, debited}
 use Rattle.margin.specs.Units.{Units}
-use Rattle.history.specs.State.{State, Now, beside}
+use Rattle.market.specs.Calendar.{contract-of}
+use Rattle.market.specs.declared.calendar.Contract.{Contract}
+use Rattle.market.specs.declared.state.ContractState.{ContractState}
+use Rattle.market.specs.declared.state.ContractState.the-variants.{Trading, Halted}
+use Rattle.history.specs.State.{State, Price, Now, beside}
+use Rattle.history.specs.Standing.{price-of, with-contract, with-state, by-contract}
 use Rattle.history.specs.Calls.{Outcome, unless-refused, with-phase, step-refusals, deposit-refusals, withdrawal-refusals}
-use Rattle.history.specs.History.{Call, step, deposit, withdraw, History, opened, _then_, act, led-to, Fresh, Leads, accepted, if-account, deposits, withdrawals}
+use Rattle.history.specs.History.{Call, step, deposit, withdraw, list, halt, resume, History, opened, _then_, act, led-to, Fresh, Leads, accepted, if-account, deposits, withdrawals}
 use Rattle.history.specs.Laws.{Laws, Stands}
 use Rattle.history.proofs.Cash.{credit-taken, debit-taken, moved-here, moved-elsewhere, moved-whole, counts, counts-not}
 
@@ -34,27 +39,53 @@ pub record Facts (start : Now) (taken : List Call) (n : Now) : Type 0 where
   pub tape : n .state .tape ≡ start .state .tape
   pub results : n .state .results ≡ start .state .results
 
+-- two states that differ at most in the phase, the contracts and the next order number
+record Same (s t : State) : Type 0 where
+  pub members : t .members ≡ s .members
+  pub first-year : t .first-year ≡ s .first-year
+  pub years : t .years ≡ s .years
+  pub orders : t .orders ≡ s .orders
+  pub lots : t .lots ≡ s .lots
+  pub tape : t .tape ≡ s .tape
+  pub results : t .results ≡ s .results
+
+same-phase : (s : State) (p : Phase) → Same s (with-phase s p)
+same-phase s p = record { members = refl; first-year = refl; years = refl; orders = refl; lots = refl; tape = refl; results = refl }
+
+same-contract : (s : State) (o : Option Contract) (state : ContractState) (price : Contract → Price) → Same s (by-contract o s (λ c. with-contract s c state (price c)))
+same-contract s None state price = record { members = refl; first-year = refl; years = refl; orders = refl; lots = refl; tape = refl; results = refl }
+same-contract s (Some c) state price = record { members = refl; first-year = refl; years = refl; orders = refl; lots = refl; tape = refl; results = refl }
+
+same-state : (s : State) (o : Option Contract) (state : ContractState) → Same s (by-contract o s (λ c. with-state s c state))
+same-state s None state = record { members = refl; first-year = refl; years = refl; orders = refl; lots = refl; tape = refl; results = refl }
+same-state s (Some c) state = record { members = refl; first-year = refl; years = refl; orders = refl; lots = refl; tape = refl; results = refl }
+
 -- the calls so far, with one more where it was accepted
 abbrev more : Bool → Call → List Call → List Call
 more ok call taken = cond ok (call ∷ taken) taken
 
 module _ (start : Now) (taken : List Call) (n : Now) (f : Facts start taken n) where
-  -- a step, refused or not
-  after-step : (p : Phase) (why : Option Refusal) → let o = unless-refused why (n .state) (with-phase (n .state) p) in
-      Facts start (more (isOk (o .answer)) step taken) (beside (o .left) (n .cash))
-  after-step p (Some e) = f
-  after-step p None = record {
-    balances = f .balances;
-    strangers = f .strangers;
+  -- a call that moves no cash and leaves the tables and the house's size
+  quiet : (t : State) (call : Call) → Same (n .state) t → ((a : ℕ) → deposits a (call ∷ taken) ≡ deposits a taken) → ((a : ℕ) → withdrawals a (call ∷ taken) ≡ withdrawals a taken)
+      → Facts start (call ∷ taken) (beside t (n .cash))
+  quiet t call same d w = record {
+    balances = λ a. ap (λ k. balance (n .cash) a + k) (w a) ∙ f .balances a ∙ ap (λ k. balance (start .cash) a + k) (sym (d a));
+    strangers = λ a h. f .strangers a (subst (λ (k : ℕ). k ≤ a) (same .members) h);
     whole = f .whole;
-    members = f .members;
-    first-year = f .first-year;
-    years = f .years;
-    orders = f .orders;
-    lots = f .lots;
-    tape = f .tape;
-    results = f .results;
+    members = same .members ∙ f .members;
+    first-year = same .first-year ∙ f .first-year;
+    years = same .years ∙ f .years;
+    orders = same .orders ∙ f .orders;
+    lots = same .lots ∙ f .lots;
+    tape = same .tape ∙ f .tape;
+    results = same .results ∙ f .results;
   }
+
+  -- such a call, refused or not
+  after-quiet : (t : State) (call : Call) → Same (n .state) t → ((a : ℕ) → deposits a (call ∷ taken) ≡ deposits a taken) → ((a : ℕ) → withdrawals a (call ∷ taken) ≡ withdrawals a taken)
+      → (why : Option Refusal) → let o = unless-refused why (n .state) t in Facts start (more (isOk (o .answer)) call taken) (beside (o .left) (n .cash))
+  after-quiet t call same d w (Some e) = f
+  after-quiet t call same d w None = quiet t call same d w
 
   -- an accepted deposit
   deposited : (member amount : ℕ) → first-that-holds (deposit-refusals n member amount) ≡ None
@@ -128,9 +159,14 @@ module _ (start : Now) (taken : List Call) (n : Now) (f : Facts start taken n) w
 
   -- any call
   after : (call : Call) → Facts start (more (isOk (act n call .answer)) call taken) (act n call .left)
-  after step = after-step _ (first-that-holds (step-refusals (n .state)))
+  after step = after-quiet _ step (same-phase (n .state) _) (λ a. refl) (λ a. refl) (first-that-holds (step-refusals (n .state)))
   after (deposit member amount) = after-deposit member amount _ refl
   after (withdraw units member amount) = after-withdrawal units member amount _ refl
+  after (list contract price rate) =
+      after-quiet _ (list contract price rate) (same-contract (n .state) (contract-of contract (n .state .years)) Trading (λ c. record { price = price; rate = rate })) (λ a. refl) (λ a. refl) _
+  after (halt contract) = after-quiet _ (halt contract) (same-state (n .state) (contract-of contract (n .state .years)) Halted) (λ a. refl) (λ a. refl) _
+  after (resume contract price) =
+      after-quiet _ (resume contract price) (same-contract (n .state) (contract-of contract (n .state .years)) Trading (λ c. record { price = price; rate = price-of (n .state) c .rate })) (λ a. refl) (λ a. refl) _
 
 -- a fresh house, before any call
 at-first : (start : Now) → Fresh start → Facts start [] start

@@ -33,6 +33,7 @@ fresh : (s : State) (c : Cash) (members first-year years : ℕ) → figures memb
 fresh s c members first-year years room w = record {
   evening = refl;
   first = refl;
+  states = refl;
   orders = same-blank no-order 0 (places (s .orders)) (omega arith);
   lots = same-blank no-lot 0 (places (s .lots)) (omega arith);
   tape = same-blank no-trade 0 (places (s .tape)) (omega arith);

@@ -1,5 +1,6 @@
 -- What a vault's refusal means to a call of the house.
-use mathlib.Core.Path.{_≡_, refl, sym, ap, _∙_}
+use mathlib.Core.Path.{_≡_, refl, sym, ap, subst, _∙_}
+use mathlib.Core.List.{List, [], _∷_, _++_}
 use mathlib.Core.Bool.{Bool, true, false, cond, not}
 use Prim.Native.Nat.{ℕ}
 use native.Mathlib.Omega.{arith}
@@ -21,7 +22,7 @@ use Rattle.market.specs.declared.refusal.Refusal.the-variants as no
 use Rattle.market.specs.declared.phase.Event.the-variants as event
 use Rattle.history.specs.State.{State, Now, beside}
 use Rattle.history.specs.Cover.{requirement, leaves-too-little}
-use Rattle.history.specs.Calls.{Outcome, outcome, unless-refused, refusal, answer-unless, not-taken, led-or-refused, no-such-member, known-or-refused, vault-refuses, withdrawing}
+use Rattle.history.specs.Calls.{Outcome, outcome, unless-refused, Admits, refusal, answer-unless, not-taken, led-or-refused, no-such-member, known-or-refused, vault-refuses, withdrawing}
 
 -- a refused movement left the cash as it was
 kept : (why : Option Fault) (before after c : Cash) (f : Fault) → vault.outcome (Err f) c ≡ vault.unless-refused why before after → c ≡ before
@@ -68,3 +69,16 @@ refusal-is why before after left r p = ap (λ o. refusal (o .answer)) p ∙ at w
     at : (o : Option Refusal) → refusal (unless-refused o before after .answer) ≡ o
     at (Some e) = refl
     at None = refl
+
+-- a reason among the first checks is the first among all
+pub first-append : (xs ys : List (Refusal × Bool)) (e : Refusal) → first-that-holds xs ≡ Some e → first-that-holds (xs ++ ys) ≡ Some e
+first-append [] ys e h = let z : _≡_ {A = ℕ} 0 1 = cc in absurd (omega arith)
+first-append (x ∷ xs) ys e h = at (x .1) (first-append xs ys e) h
+  where
+    at : (b : Bool) → (first-that-holds xs ≡ Some e → first-that-holds (xs ++ ys) ≡ Some e) → cond b (Some (x .0)) (first-that-holds xs) ≡ Some e → cond b (Some (x .0)) (first-that-holds (xs ++ ys)) ≡ Some e
+    at true f q = q
+    at false f q = f q
+
+-- a check that answers a refusal
+pub admits-err : {X : Type 0} (r : Result X Refusal) (e : Refusal) (why : Option Refusal) (P : X → Type 0) → r ≡ Err e → why ≡ Some e → Admits r why P
+admits-err r e why P p q = subst (λ x. Admits x why P) (sym p) q

@@ -1,5 +1,6 @@
 -- What each call does: when it is refused, and otherwise what it leaves.
 -- Checks run by rising number, that of the phase first of all; a refused call leaves everything as it was.
+use mathlib.Core.Path.{_≡_}
 use mathlib.Core.Bool.{Bool, true, false, cond, not, _||_}
 use mathlib.Core.List.{List, [], _∷_}
 use Prim.Native.Nat.{ℕ, _*_}
@@ -14,6 +15,7 @@ use Rattle.std.specs.declared.result.Result.the-variants.{Ok, Err}
 use Rattle.line.specs.Tables.{Held, places, all-blank}
 use Rattle.market.specs.Phases.{next-phase}
 use Rattle.market.specs.Records.{no-order, no-lot, no-trade}
+use Rattle.market.specs.declared.calendar.Contract.{Contract}
 use Rattle.market.specs.declared.phase.Event.{Event}
 use Rattle.market.specs.declared.phase.Event.the-variants as event
 use Rattle.market.specs.declared.phase.Phase.{Phase}
@@ -27,6 +29,7 @@ use Rattle.vault.specs.Checks.{first-that-holds}
 use Rattle.vault.specs.Cash.{Cash, Moved, balance, credited, debited}
 use Rattle.margin.specs.Units.{Units}
 use Rattle.history.specs.State.{State, Now, beside}
+use Rattle.history.specs.Standing.{all-unlisted, no-prices}
 use Rattle.history.specs.Cover.{requirement, leaves-too-little}
 
 -- a call's answer, and what it leaves
@@ -48,6 +51,11 @@ abbrev pub answer-unless : {X : Type 0} → Option Refusal → X → Result X Re
 answer-unless (Some e) figure = Err e
 answer-unless None figure = Ok figure
 
+-- a check answers the first reason that holds, or, where none does, something of which a fact holds
+abbrev pub Admits : {X : Type 0} → Result X Refusal → Option Refusal → (X → Type 0) → Type 0
+Admits (Ok x) why P = (why ≡ None) × P x
+Admits (Err e) why P = why ≡ Some e
+
 -- the refusal in an answer, if it is one
 abbrev pub refusal : {X : Type 0} → Result X Refusal → Option Refusal
 refusal (Ok x) = None
@@ -65,6 +73,11 @@ phase-after s e = valueOr (next-phase (s .phase) e) (s .phase)
 abbrev pub led-or-refused : Option Phase → Result Phase Refusal
 led-or-refused (Some p) = Ok p
 led-or-refused None = Err no.Phase
+
+-- the contract of a number, or the refusal
+abbrev pub found-or-refused : Option Contract → Result Contract Refusal
+found-or-refused (Some c) = Ok c
+found-or-refused None = Err no.Contract
 
 -- there is no member of this number
 abbrev pub no-such-member : State → ℕ → Bool
@@ -107,6 +120,8 @@ unopened orders lots tape results = record {
   first-year = 0;
   years = 0;
   next-number = 1;
+  states = all-unlisted;
+  prices = no-prices;
   orders = record { records = []; behind = orders };
   lots = record { records = []; behind = lots };
   tape = record { records = []; behind = tape };
@@ -121,6 +136,8 @@ newly-opened s members first-year years = record {
   first-year = first-year;
   years = years;
   next-number = 1;
+  states = all-unlisted;
+  prices = no-prices;
   orders = all-blank no-order 0 (places (s .orders));
   lots = all-blank no-lot 0 (places (s .lots));
   tape = all-blank no-trade 0 (places (s .tape));
@@ -142,6 +159,8 @@ with-phase s p = record {
   first-year = s .first-year;
   years = s .years;
   next-number = s .next-number;
+  states = s .states;
+  prices = s .prices;
   orders = s .orders;
   lots = s .lots;
   tape = s .tape;

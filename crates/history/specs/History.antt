@@ -12,13 +12,18 @@ use Rattle.market.specs.declared.phase.Phase.the-variants.{Evening}
 use Rattle.vault.specs.Cash.{Cash, Whole}
 use Rattle.margin.specs.Units.{Units}
 use Rattle.history.specs.State.{State, Now, beside}
+use Rattle.history.specs.Standing.{all-unlisted}
 use Rattle.history.specs.Calls.{Outcome, outcome, figures, stepping, depositing, withdrawing}
+use Rattle.history.specs.Listing.{listing, halting, resuming}
 
 -- the kinds of call that change something, with their arguments; a call that needs cover names its margin rule by its units
 pub data Call : Type 0 where
   step : Call
   deposit : (member amount : ℕ) → Call
   withdraw : Units → (member amount : ℕ) → Call
+  list : (contract price rate : ℕ) → Call
+  halt : (contract : ℕ) → Call
+  resume : (contract price : ℕ) → Call
 
 -- a state's outcome beside a cash that it does not touch
 abbrev pub cash-untouched : Cash → Outcome State → Outcome Now
@@ -29,6 +34,9 @@ abbrev pub act : Now → Call → Outcome Now
 act n step = cash-untouched (n .cash) (stepping (n .state))
 act n (deposit member amount) = depositing n member amount
 act n (withdraw units member amount) = withdrawing units n member amount
+act n (list contract price rate) = cash-untouched (n .cash) (listing (n .state) contract price rate)
+act n (halt contract) = cash-untouched (n .cash) (halting (n .state) contract)
+act n (resume contract price) = cash-untouched (n .cash) (resuming (n .state) contract price)
 
 infixl 20 _then_
 -- no call yet, or the calls so far and then one more
@@ -45,6 +53,7 @@ led-to start (calls then call) = act (led-to start calls) call .left
 pub record Fresh (n : Now) : Type 0 where
   pub evening : n .state .phase ≡ Evening
   pub first : n .state .next-number ≡ 1
+  pub states : n .state .states ≡ all-unlisted
   pub orders : n .state .orders ≡ all-blank no-order 0 (places (n .state .orders))
   pub lots : n .state .lots ≡ all-blank no-lot 0 (places (n .state .lots))
   pub tape : n .state .tape ≡ all-blank no-trade 0 (places (n .state .tape))
@@ -72,6 +81,9 @@ deposits account [] = 0
 deposits account (step ∷ calls) = deposits account calls
 deposits account (deposit member amount ∷ calls) = if-account account member amount + deposits account calls
 deposits account (withdraw units member amount ∷ calls) = deposits account calls
+deposits account (list contract price rate ∷ calls) = deposits account calls
+deposits account (halt contract ∷ calls) = deposits account calls
+deposits account (resume contract price ∷ calls) = deposits account calls
 
 -- what the withdrawals among some calls take from an account, in kuruş
 abbrev pub withdrawals : ℕ → List Call → ℕ
@@ -79,3 +91,6 @@ withdrawals account [] = 0
 withdrawals account (step ∷ calls) = withdrawals account calls
 withdrawals account (deposit member amount ∷ calls) = withdrawals account calls
 withdrawals account (withdraw units member amount ∷ calls) = if-account account member amount + withdrawals account calls
+withdrawals account (list contract price rate ∷ calls) = withdrawals account calls
+withdrawals account (halt contract ∷ calls) = withdrawals account calls
+withdrawals account (resume contract price ∷ calls) = withdrawals account calls

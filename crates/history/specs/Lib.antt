@@ -1,5 +1,7 @@
 pub mod State
+pub mod Standing
 pub mod Cover
 pub mod Calls
+pub mod Listing
 pub mod History
 pub mod Laws

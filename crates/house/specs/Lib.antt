@@ -1,2 +1,4 @@
 pub mod Sound
 pub mod View
+pub mod Runs
+pub mod Figures

@@ -11,9 +11,11 @@ use crate::house::House;
 use line::Blank;
 use line::SignedBlank;
 use line::Table;
+use market::ContractState;
 use market::Event;
 use market::Lot;
 use market::LotBlank;
+use market::Opening;
 use market::Order;
 use market::OrderBlank;
 use market::Phase;
@@ -37,6 +39,9 @@ pub const MAX_TRADES: usize = 4_096;
 
 // A member has a result for each month, quarter and year: 17 for each year.
 pub const RESULTS_A_YEAR: usize = 17;
+
+// A house of the most years has so many contracts.
+const SLOTS: usize = 68;
 
 // Whether a number lies outside a range.
 fn outside(low: usize, high: usize, n: usize) -> bool
@@ -72,6 +77,8 @@ impl<'a> House<'a> {
             first_year: 0,
             years: 0,
             next_number: 1,
+            states: [ContractState::Unlisted; SLOTS],
+            prices: [Opening::placeholder(); SLOTS],
         }
     }
 }
@@ -123,6 +130,8 @@ impl House<'_> {
         self.first_year = first_year;
         self.years = years;
         self.next_number = 1;
+        self.states = [ContractState::Unlisted; SLOTS];
+        self.prices = [Opening::placeholder(); SLOTS];
     }
 
     // Opens the house, or says why not.

@@ -1,10 +1,8 @@
 // What a margin rule means, and the two rules of the house: the gas rule and the hub rule.
-pub mod figures;
 pub mod gas;
 pub mod hub;
 pub mod rule;
 
-pub use figures::figures_stand;
 pub use gas::GasMarginRule;
 pub use gas::GasRule;
 pub use hub::HubMarginRule;

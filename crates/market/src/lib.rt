@@ -1,13 +1,16 @@
 // The words that the whole house shares: sides and records, phases and events, refusals, and the price record of a contract.
 mod blanks;
+pub mod calendar;
 pub mod opening;
 pub mod phase;
 pub mod records;
 pub mod refusal;
+pub mod state;
 
 pub use blanks::LotBlank;
 pub use blanks::OrderBlank;
 pub use blanks::TradeBlank;
+pub use calendar::Contract;
 pub use opening::MAX_PRICE;
 pub use opening::MAX_RATE;
 pub use opening::Opening;
@@ -19,6 +22,9 @@ pub use records::Order;
 pub use records::Side;
 pub use records::Trade;
 pub use refusal::Refusal;
+pub use state::ContractState;
 
+#[cfg(test)]
+mod calendar_tests;
 #[cfg(test)]
 mod tests;

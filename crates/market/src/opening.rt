@@ -38,6 +38,21 @@ impl Opening {
         })
     }
 
+    // What stands for the price record of a contract that was never listed.
+    pub fn placeholder() -> Opening
+        ensures price { λ r. ⌜ r .price ≡ 1 ⌝ }
+        ensures rate { λ r. ⌜ r .rate ≡ 1 ⌝ }
+    {
+        Opening { price: 1, rate: 1 }
+    }
+
+    // The record with a new opening price and the same rate, if the price is in range.
+    pub fn with_price(&self, price: u32) -> Option<Opening>
+        ensures { λ r. ⌜ mapped (λ o. (o .price, o .rate)) r ≡ accepted price (now (self .entry) .rate) ⌝ }
+    {
+        Opening::new(price, u32::from(self.rate))
+    }
+
     // kuruş per thousand Sm³
     pub fn price(&self) -> u32
         ensures { λ r. ⌜ r ≡ now (self .entry) .price ⌝ }

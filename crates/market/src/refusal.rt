@@ -10,7 +10,11 @@ pub enum Refusal {
     HubRule, // a hub rule would be made with its tax rate, or its share, out of range
     Phase, // the phase does not take the call
     Member, // there is no member of that number
+    Contract, // there is no contract of that number
+    State, // the contract's state does not take the call
     Cover, // the requirement would exceed the balance
+    BasePrice, // a base price, or a rate, is out of its range
+    PastInside, // a quarter or year would be listed while a month or quarter inside it is delivering or ended
     Vault, // the vault refused a deposit or a withdrawal
 }
 
@@ -26,7 +30,11 @@ impl Refusal {
             Refusal::HubRule => 4,
             Refusal::Phase => 10,
             Refusal::Member => 11,
+            Refusal::Contract => 12,
+            Refusal::State => 13,
             Refusal::Cover => 17,
+            Refusal::BasePrice => 30,
+            Refusal::PastInside => 31,
             Refusal::Vault => 50,
         }
     }
@@ -42,7 +50,11 @@ impl Refusal {
             Refusal::HubRule => 0,
             Refusal::Phase => 0,
             Refusal::Member => 0,
+            Refusal::Contract => 0,
+            Refusal::State => 0,
             Refusal::Cover => 0,
+            Refusal::BasePrice => 0,
+            Refusal::PastInside => 0,
             Refusal::Vault => 0,
         }
     }

@@ -55,6 +55,10 @@ fn refusal_words(refusal: Refusal) -> &'static str {
         Refusal::HubRule => "the tax rate is at most 2500, and the share at most 10000",
         Refusal::Phase => "the call is not taken in this phase",
         Refusal::Member => "there is no such member",
+        Refusal::Contract => "there is no such contract",
+        Refusal::State => "the contract's state does not take the call",
+        Refusal::BasePrice => "a price lies in 1 to 4000000, and a rate in 1 to 2000",
+        Refusal::PastInside => "a month or quarter inside it is delivering or ended",
         Refusal::Cover => "the requirement would exceed the balance",
         Refusal::Vault => "the vault does not take this amount, or takes no more movements",
     }
@@ -70,10 +74,14 @@ fn form_words(form: Form) -> &'static str {
         Form::Open => "expected: open MEMBERS YEAR YEARS",
         Form::Deposit => "expected: deposit MEMBER AMOUNT",
         Form::Withdraw => "expected: withdraw MEMBER AMOUNT",
+        Form::List => "expected: list CONTRACT PRICE RATE",
+        Form::Halt => "expected: halt CONTRACT",
+        Form::Resume => "expected: resume CONTRACT PRICE",
         Form::Step => "expected: step",
         Form::Requirement => "expected: requirement MEMBER",
         Form::Show => "expected: show orders, lots, tape, results, balances or phase",
         Form::NotBuilt => "not built yet",
-        Form::Unknown => "expected: lend, rule, open, deposit, withdraw, step, requirement or show",
+        Form::Unknown =>
+            "expected: lend, rule, open, deposit, withdraw, list, halt, resume, step, requirement or show",
     }
 }

@@ -200,6 +200,13 @@ fn carry_out<V: Vault>(
                 ChosenRule::Hub(rule) => house.withdraw(vault, &rule, member, amount),
             },
         ),
+        Command::List {
+            contract,
+            price,
+            rate,
+        } => answered(house.list(contract, price, rate)),
+        Command::Halt { contract } => answered(house.halt(contract)),
+        Command::Resume { contract, price } => answered(house.resume(contract, price)),
         Command::Step => answered(house.step()),
         Command::Requirement { member } => requirement(desk, house, member),
         Command::Show(What::Phase) => Answer::Now(house.phase()),

@@ -35,10 +35,10 @@ fn an_empty_script(rt: LibcRuntime) -> Result<(), Fail> {
 fn lines_of_another_form(rt: LibcRuntime) -> Result<(), Fail> {
     let script = b"stpe\n step\nstep \nstep\r\ndeposit  0 1\ndeposit 0 -1\ndeposit 0\n";
     let output =
-        b"stpe : bad (expected: lend, rule, open, deposit, withdraw, step, requirement or show)
- step : bad (expected: lend, rule, open, deposit, withdraw, step, requirement or show)
+        b"stpe : bad (expected: lend, rule, open, deposit, withdraw, list, halt, resume, step, requirement or show)
+ step : bad (expected: lend, rule, open, deposit, withdraw, list, halt, resume, step, requirement or show)
 step  : bad (expected: step)
-step\r : bad (expected: lend, rule, open, deposit, withdraw, step, requirement or show)
+step\r : bad (expected: lend, rule, open, deposit, withdraw, list, halt, resume, step, requirement or show)
 deposit  0 1 : bad (expected: deposit MEMBER AMOUNT)
 deposit 0 -1 : bad (expected: deposit MEMBER AMOUNT)
 deposit 0 : bad (expected: deposit MEMBER AMOUNT)
@@ -68,7 +68,7 @@ show balances : ok 1
 fn bytes_that_are_no_text(rt: LibcRuntime) -> Result<(), Fail> {
     let script = b"#\xff\xfe\n\x80\xff 1\nstep";
     let output = b"#\xff\xfe
-\x80\xff 1 : bad (expected: lend, rule, open, deposit, withdraw, step, requirement or show)
+\x80\xff 1 : bad (expected: lend, rule, open, deposit, withdraw, list, halt, resume, step, requirement or show)
 step : no 10 0 (the call is not taken in this phase)
 # 1 calls, 0 accepted, 1 refused, 1 bad
 ";
