@@ -11,7 +11,7 @@ abbrev pub at-least-zero : ℤ → ℕ
 at-least-zero (pos n) = n
 at-least-zero (negsuc n) = 0
 
--- what the contracts add to a member's requirement: as long as none can be listed, nothing
+-- what the contracts add to a member's requirement: as long as nothing can be held in them, nothing
 abbrev pub added-by-contracts : Units → State → ℕ → ℤ
 added-by-contracts units s member = pos 0
 

@@ -1,4 +1,4 @@
-// The clearing house: lending, opening, the phases of the day, cash and cover.
+// The clearing house: lending, opening, the phases of the day, contracts and their listing, cash and cover.
 mod cash;
 mod contracts;
 mod cover;

@@ -1,11 +1,10 @@
 -- How many places a table has, and what a blank one holds.
-use mathlib.Core.Path.{_≡_, refl, sym, ap, _∙_}
+use mathlib.Core.Path.{_≡_, sym, ap, _∙_}
 use mathlib.Core.List.{List}
 use Prim.Native.Nat.{ℕ, _+_, _-_, _≤_}
 use native.Mathlib.Omega.{arith}
 use lib.ListN.{length, take, drop, replicate, take-append-drop, length-append}
 use Rattle.std.proofs.shelf.Lists.{take-replicate, drop-replicate, length-replicate}
-use Rattle.line.specs.Tables.{Held, places, all-blank}
 
 -- the records and the places behind them are all places
 pub places-are : {X : Type 0} (xs : List X) (n : ℕ) → length (take n xs) + length (drop n xs) ≡ length xs

@@ -1,9 +1,12 @@
 -- What a lent table holds, as lists.
 -- whole: every lent place; records: the places in use, at the front; behind: the free places after them.
 use mathlib.Core.Path.{_≡_}
+use mathlib.Core.Bool.{true}
 use mathlib.Core.List.{List}
-use Prim.Native.Nat.{ℕ, _+_, _-_, _≤_}
+use Prim.Native.Nat.{ℕ, _+_, _-_, _<_, _≤_}
 use lib.ListN.{length, take, drop, replicate}
+use Rattle.line.specs.Places.{Rank}
+use Rattle.line.specs.Lines.{in-line}
 use Rattle.line.specs.declared.table.Table.{Table}
 
 -- every lent place
@@ -25,6 +28,14 @@ Within t = t .used ≤ length (whole t)
 -- every free place is blank
 abbrev pub Cleared : {X : Type 0} → X → Table X → Type 0
 Cleared blank t = behind t ≡ replicate (length (behind t)) blank
+
+-- a place is free behind the records
+abbrev pub Room : {X : Type 0} → Table X → Type 0
+Room t = t .used < length (whole t)
+
+-- the records stand within the places and in line, and every free place is blank
+abbrev pub Sound : {X : Type 0} → (X → List Rank) → X → Table X → Type 0
+Sound place blank t = Within t × (in-line place (records t) ≡ true) × Cleared blank t
 
 -- a lent table apart from its memory: what stands in its records and in the free places behind them
 pub record Held (X : Type 0) : Type 0 where

@@ -3,6 +3,7 @@ pub mod Calendar
 pub mod CalendarLaws
 pub mod Opening
 pub mod Phases
+pub mod Places
 pub mod Records
 pub mod Refusals
 pub mod States

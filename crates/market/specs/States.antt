@@ -68,4 +68,4 @@ state-takes event.Close state = is-listed state
 state-takes event.Settle state = is-delivering state
 state-takes event.Deposit state = true
 state-takes event.Withdraw state = true
-state-takes event.Question state = is-listed state
+state-takes event.Question state = true

@@ -1,8 +1,9 @@
-// The words that the whole house shares: sides and records, phases and events, refusals, and the price record of a contract.
+// The words that the whole house shares: sides and records, the calendar and its contracts, their states and price records, phases and events, refusals.
 mod blanks;
 pub mod calendar;
 pub mod opening;
 pub mod phase;
+mod places;
 pub mod records;
 pub mod refusal;
 pub mod state;
@@ -17,6 +18,7 @@ pub use opening::Opening;
 pub use opening::WHOLE;
 pub use phase::Event;
 pub use phase::Phase;
+pub use places::LotPlaced;
 pub use records::Lot;
 pub use records::Order;
 pub use records::Side;

@@ -59,7 +59,7 @@ impl ContractState {
             Event::List => self.is_unlisted(),
             Event::Order | Event::Halt => self.is_trading(),
             Event::Resume => self.is_halted(),
-            Event::Cascade | Event::Close | Event::Question => self.is_listed(),
+            Event::Cascade | Event::Close => self.is_listed(),
             Event::Settle => self.is_delivering(),
             _ => true,
         }

@@ -1,3 +1,4 @@
+-- Each turn blanks one place more, and the last turn the last.
 use mathlib.Core.Path.{refl}
 use native.Mathlib.Omega.{arith}
 use Rattle.line.proofs.Wiping.{one-more, all-done}

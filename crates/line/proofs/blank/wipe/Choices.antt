@@ -1,3 +1,4 @@
+-- Blanking goes from the front.
 use mathlib.Core.Path.{_≡_}
 use mathlib.Core.List.{_++_}
 use lib.ListN.{drop, replicate}

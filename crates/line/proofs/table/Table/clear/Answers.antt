@@ -1,6 +1,6 @@
-use mathlib.Core.Path.{_≡_, refl, sym}
-use mathlib.Core.List.{List}
-use Rattle.line.specs.Tables.{Held, held, places}
+-- Once every place is blank, the first of them count as records.
+use mathlib.Core.Path.{refl}
+use Rattle.line.specs.Tables.{held, places}
 use Rattle.line.proofs.Counting.{places-are, wiped}
 use Rattle.line.proofs.table.Table.clear.Needs as need
 

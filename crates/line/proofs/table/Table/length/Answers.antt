@@ -1,3 +1,4 @@
+-- All places are the records and those behind them.
 use mathlib.Core.Path.{sym}
 use Rattle.line.proofs.Counting.{places-are}
 use Rattle.line.proofs.table.Table.length.Needs as need
