@@ -20,7 +20,7 @@ impl Blank for i64 {
 
 // Blanks every place.
 pub(crate) fn wipe<T: Blank>(places: &mut [T])
-    ensures { places.new ≡ replicate (length places.old) blank }
+    ensures { places.new ≡ replicate (length places.old) T.blank }
 {
     let n = places.len();
     for i in 0..n {

@@ -21,21 +21,21 @@ impl<T: Blank> Table<'_, T> {
     pub fn at(&self, index: usize) -> T
         requires within { Within self.now }
         requires there { index < self.now.used }
-        ensures { result ≡ slice_index_or (records self.now) index blank }
+        ensures { result ≡ slice_index_or (records self.now) index T.blank }
     {
         self.records()[index]
     }
 
     // Adds the record behind the others.
     pub fn push(&mut self, x: T)
-        requires cleared { Cleared blank self.old }
+        requires cleared { Cleared T.blank self.old }
         requires room { Room self.old }
         ensures same { self.new.places.ghost_name ≡ self.old.places.ghost_name }
         ensures used { self.new.used ≡ self.old.used + 1 }
         ensures length { length (whole self.new) ≡ length (whole self.old) }
         ensures records { records self.new ≡ records self.old ++ x ∷ [] }
         ensures within { Within self.new }
-        ensures cleared { Cleared blank self.new }
+        ensures cleared { Cleared T.blank self.new }
     {
         let used = self.used;
         self.places[used] = x;
@@ -46,21 +46,21 @@ impl<T: Blank> Table<'_, T> {
 impl<T: Placed> Table<'_, T> {
     // How many records come before the key.
     pub fn spot(&self, key: &T) -> usize
-        requires { Sound place T.Blank.blank self.now }
+        requires { Sound T.place T.Blank.blank self.now }
         ensures within { result ≤ self.now.used }
-        ensures spot { result ≡ spot place (place key.now) (records self.now) }
+        ensures spot { result ≡ spot T.place (T.place key.now) (records self.now) }
     {
         find(self.records(), key)
     }
 
     // The records that do not come before `first`, and that come before `beyond`.
     pub fn run(&self, first: &T, beyond: &T) -> Run
-        requires { Sound place T.Blank.blank self.now }
-        ensures from { result.from ≡ spot place (place first.now) (records self.now) }
-        ensures to { result.to ≡ spot place (place beyond.now) (records self.now) }
+        requires { Sound T.place T.Blank.blank self.now }
+        ensures from { result.from ≡ spot T.place (T.place first.now) (records self.now) }
+        ensures to { result.to ≡ spot T.place (T.place beyond.now) (records self.now) }
         ensures within { result.to ≤ self.now.used }
-        ensures order { ahead (place beyond.now) (place first.now) ≡ false → result.from ≤ result.to }
-        ensures records { drop result.from (take result.to (records self.now)) ≡ filter (lies_between place (place first.now) (place beyond.now)) (records self.now) }
+        ensures order { ahead (T.place beyond.now) (T.place first.now) ≡ false → result.from ≤ result.to }
+        ensures records { drop result.from (take result.to (records self.now)) ≡ filter (lies_between T.place (T.place first.now) (T.place beyond.now)) (records self.now) }
     {
         let line = self.records();
         Run {
@@ -71,8 +71,8 @@ impl<T: Placed> Table<'_, T> {
 
     // Whether no record has the place of `x`.
     pub fn free(&self, x: &T) -> bool
-        requires { Sound place T.Blank.blank self.now }
-        ensures { Decides result (Free place x.now (records self.now)) }
+        requires { Sound T.place T.Blank.blank self.now }
+        ensures { Decides result (Free T.place x.now (records self.now)) }
     {
         let line = self.records();
         let index = find(line, x);
@@ -81,14 +81,14 @@ impl<T: Placed> Table<'_, T> {
 
     // Puts the record where it belongs.
     pub fn put(&mut self, x: T)
-        requires sound { Sound place T.Blank.blank self.old }
+        requires sound { Sound T.place T.Blank.blank self.old }
         requires room { Room self.old }
-        requires free { Free place x (records self.old) }
+        requires free { Free T.place x (records self.old) }
         ensures same { self.new.places.ghost_name ≡ self.old.places.ghost_name }
         ensures used { self.new.used ≡ self.old.used + 1 }
         ensures length { length (whole self.new) ≡ length (whole self.old) }
-        ensures records { records self.new ≡ entered place x (records self.old) }
-        ensures sound { Sound place T.Blank.blank self.new }
+        ensures records { records self.new ≡ entered T.place x (records self.old) }
+        ensures sound { Sound T.place T.Blank.blank self.new }
     {
         let used = self.used;
         let index = self.spot(&x);
@@ -98,27 +98,27 @@ impl<T: Placed> Table<'_, T> {
 
     // Takes the record at the index out.
     pub fn cut(&mut self, index: usize)
-        requires sound { Sound place T.Blank.blank self.old }
+        requires sound { Sound T.place T.Blank.blank self.old }
         requires there { index < self.old.used }
         ensures same { self.new.places.ghost_name ≡ self.old.places.ghost_name }
         ensures used { self.new.used + 1 ≡ self.old.used }
         ensures length { length (whole self.new) ≡ length (whole self.old) }
         ensures records { records self.new ≡ taken_out index (index + 1) (records self.old) }
-        ensures sound { Sound place T.Blank.blank self.new }
+        ensures sound { Sound T.place T.Blank.blank self.new }
     {
         self.cut_run(index, index + 1);
     }
 
     // Takes the records from `from` up to `to` out.
     pub fn cut_run(&mut self, from: usize, to: usize)
-        requires sound { Sound place T.Blank.blank self.old }
+        requires sound { Sound T.place T.Blank.blank self.old }
         requires order { from ≤ to }
         requires there { to ≤ self.old.used }
         ensures same { self.new.places.ghost_name ≡ self.old.places.ghost_name }
         ensures used { self.new.used + (to - from) ≡ self.old.used }
         ensures length { length (whole self.new) ≡ length (whole self.old) }
         ensures records { records self.new ≡ taken_out from to (records self.old) }
-        ensures sound { Sound place T.Blank.blank self.new }
+        ensures sound { Sound T.place T.Blank.blank self.new }
     {
         let used = self.used;
         close(self.places, used, from, to);
@@ -127,26 +127,26 @@ impl<T: Placed> Table<'_, T> {
 
     // Writes over the record at the index one that has its place.
     pub fn amend(&mut self, index: usize, x: T)
-        requires sound { Sound place T.Blank.blank self.old }
+        requires sound { Sound T.place T.Blank.blank self.old }
         requires there { index < self.old.used }
-        requires place { place x ≡ place (slice_index_or (records self.old) index T.Blank.blank) }
+        requires place { T.place x ≡ T.place (slice_index_or (records self.old) index T.Blank.blank) }
         ensures same { self.new.places.ghost_name ≡ self.old.places.ghost_name }
         ensures used { self.new.used ≡ self.old.used }
         ensures length { length (whole self.new) ≡ length (whole self.old) }
         ensures records { records self.new ≡ slice_set (records self.old) index x }
-        ensures sound { Sound place T.Blank.blank self.new }
+        ensures sound { Sound T.place T.Blank.blank self.new }
     {
         self.places[index] = x;
     }
 
     // Keeps the records that pass the test, and takes the others out.
     pub fn keep<K: Keeps<T>>(&mut self, test: &K)
-        requires { Sound place T.Blank.blank self.old }
+        requires { Sound T.place T.Blank.blank self.old }
         ensures same { self.new.places.ghost_name ≡ self.old.places.ghost_name }
-        ensures used { self.new.used ≡ length (filter (keeps test.now) (records self.old)) }
+        ensures used { self.new.used ≡ length (filter (K.keeps test.now) (records self.old)) }
         ensures length { length (whole self.new) ≡ length (whole self.old) }
-        ensures records { records self.new ≡ filter (keeps test.now) (records self.old) }
-        ensures sound { Sound place T.Blank.blank self.new }
+        ensures records { records self.new ≡ filter (K.keeps test.now) (records self.old) }
+        ensures sound { Sound T.place T.Blank.blank self.new }
     {
         let used = self.used;
         self.used = sift(self.places, used, test);

@@ -7,9 +7,9 @@ use crate::placed::{Keeps, Placed};
 
 // How many of the records come before the key, by halving.
 pub(crate) fn find<T: Placed>(line: &[T], key: &T) -> usize
-    requires { in_line place line.now ≡ true }
+    requires { in_line T.place line.now ≡ true }
     ensures within { result ≤ length line.now }
-    ensures spot { result ≡ spot place (place key.now) line.now }
+    ensures spot { result ≡ spot T.place (T.place key.now) line.now }
 {
     let mut low = 0;
     let mut high = line.len();
@@ -44,7 +44,7 @@ pub(crate) fn close<T: Blank>(places: &mut [T], used: usize, from: usize, to: us
     requires order { from ≤ to }
     requires there { to ≤ used }
     requires within { used ≤ length places.old }
-    ensures { places.new ≡ taken_out from to (take used places.old) ++ (replicate (to - from) blank ++ drop used places.old) }
+    ensures { places.new ≡ taken_out from to (take used places.old) ++ (replicate (to - from) T.blank ++ drop used places.old) }
 {
     let mut end = from;
     for i in to..used {
@@ -58,8 +58,8 @@ pub(crate) fn close<T: Blank>(places: &mut [T], used: usize, from: usize, to: us
 pub(crate) fn sift<T: Blank, K: Keeps<T>>(places: &mut [T], used: usize, test: &K) -> usize
     requires { used ≤ length places.old }
     ensures within { result ≤ used }
-    ensures count { result ≡ length (filter (keeps test.now) (take used places.old)) }
-    ensures after { places.new ≡ filter (keeps test.now) (take used places.old) ++ (replicate (used - result) blank ++ drop used places.old) }
+    ensures count { result ≡ length (filter (K.keeps test.now) (take used places.old)) }
+    ensures after { places.new ≡ filter (K.keeps test.now) (take used places.old) ++ (replicate (used - result) T.blank ++ drop used places.old) }
 {
     let mut end = 0;
     for i in 0..used {

@@ -44,9 +44,9 @@ impl<T: Blank> Table<'_, T> {
         requires { used ≤ places (held self.old) }
         ensures same { self.new.places.ghost_name ≡ self.old.places.ghost_name }
         ensures used { self.new.used ≡ used }
-        ensures holds { held self.new ≡ all_blank blank used (places (held self.old)) }
+        ensures holds { held self.new ≡ all_blank T.blank used (places (held self.old)) }
         ensures within { Within self.new }
-        ensures cleared { Cleared blank self.new }
+        ensures cleared { Cleared T.blank self.new }
     {
         wipe(self.places);
         self.used = used;

@@ -18,16 +18,16 @@ pub loop-rest-smaller : goal.loop-rest-smaller
 loop-rest-smaller c =
     let rest = c.loop-rest.rest.now in
     let some : 0 < length rest = omega (arith, false-eqb (length rest) 0 c.loop-rest-test.ensures) in
-    line_shorter rest c.first-line.result.1.now some c.first-line.ensures.back
+    line_shorter rest c.first_line.result.1.now some c.first_line.ensures.back
 
 pub loop-rest-preserved : goal.loop-rest-preserved
 loop-rest-preserved c =
     let rest = c.loop-rest.rest.now in
-    let line = c.first-line.result.0.now in
-    let behind = c.first-line.result.1.now in
+    let line = c.first_line.result.0.now in
+    let behind = c.first_line.result.1.now in
     let some : 0 < length rest = omega (arith, false-eqb (length rest) 0 c.loop-rest-test.ensures) in
-    let split = lines_split rest line behind some c.first-line.ensures.front c.first-line.ensures.back in
-    lent_later (lines rest) (lines behind) line split (sym c.if-not-is-copied.ensures) ∙ c.loop-rest.invariant
+    let split = lines_split rest line behind some c.first_line.ensures.front c.first_line.ensures.back in
+    lent_later (lines rest) (lines behind) line split (sym c.if-not-is_copied.ensures) ∙ c.loop-rest.invariant
 
 pub returns : goal.returns
 returns c =

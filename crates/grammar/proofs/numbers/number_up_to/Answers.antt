@@ -23,5 +23,5 @@ loop-byte-preserved c =
 pub returns : goal.returns
 returns c =
     let word = c.args.word.now in
-    let some : 0 < length word = omega (arith, false-eqb (length word) 0 c.if-is-empty.ensures) in
+    let some : 0 < length word = omega (arith, false-eqb (length word) 0 c.if-is_empty.ensures) in
     read_end c.args.most c.loop-byte.number c.loop-byte.byte-index word c.loop-byte.invariant some c.loop-byte-test.false

@@ -6,8 +6,8 @@ use Rattle.grammar.proofs.words.cut.Goals as goal
 pub returns-then-n-bytes : goal.returns-then-n-bytes
 returns-then-n-bytes c =
     let bytes = c.args.bytes.now in
-    let n = c.length-before-n.result in
-    let told = c.length-before-n.ensures in
+    let n = c.length_before-n.result in
+    let told = c.length_before-n.ensures in
     let start : n - 0 ≡ n = omega arith in
     let short : length (drop (n + 1) bytes) ≤ length bytes - (n + 1) = omega (arith, length-drop (n + 1) bytes) in
     record {
@@ -18,8 +18,8 @@ returns-then-n-bytes c =
 pub returns-else-n-bytes : goal.returns-else-n-bytes
 returns-else-n-bytes c =
     let bytes = c.args.bytes.now in
-    let n = c.length-before-n.result in
-    let told = c.length-before-n.ensures in
+    let n = c.length_before-n.result in
+    let told = c.length_before-n.ensures in
     record {
       front = sym (take_all n bytes c.if-n-bytes.false) ∙ told.front;
       back = sym (cond-false (ltb n (length bytes)) _ _ (le-ltb n (length bytes) c.if-n-bytes.false)) ∙ told.back;

@@ -9,5 +9,5 @@ tested xs ys r h = search (rules, bytes_eq-Decides)
 
 pub returns : goal.returns
 returns c =
-    let told = slice_eq-Decides Decides-eqb c.args.word.now c.as-bytes.result.now c.eq.result c.eq.ensures in
-    tested c.args.word.now c.args.text.now c.eq.result (rw c.as-bytes.ensures.value at told)
+    let told = slice_eq-Decides Decides-eqb c.args.word.now c.as_bytes.result.now c.eq.result c.eq.ensures in
+    tested c.args.word.now c.args.text.now c.eq.result (rw c.as_bytes.ensures.value at told)

@@ -21,5 +21,5 @@ pub returns : goal.returns
 returns c =
     let j = c.args.self.now in
     let t = credit_taken j.balances j.entries.now j.used c.args.account c.args.amount c.balance-held.result c.left.result
-    j.agree j.sums j.free c.balance-held.ensures c.left.ensures c.in-ok-check-movement.ensures in
+    j.agree j.sums j.free c.balance-held.ensures c.left.ensures c.in_ok-check_movement.ensures in
     record { moves = t.moves; list = t.list; used = refl; lent = refl }

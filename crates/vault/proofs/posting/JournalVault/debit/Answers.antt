@@ -20,5 +20,5 @@ returns c =
     let low = (whole j.entries.now j.used j.sums).low c.args.account in
     let held : c.balance-held.result ≤ ceiling = omega arith in
     let t = debit_taken j.balances j.entries.now j.used c.args.account c.args.amount c.balance-held.result c.left.result
-    j.agree j.sums j.free c.balance-held.ensures c.left.ensures held c.in-ok-check-movement.ensures in
+    j.agree j.sums j.free c.balance-held.ensures c.left.ensures held c.in_ok-check_movement.ensures in
     record { moves = t.moves; list = t.list; used = refl; lent = refl }
