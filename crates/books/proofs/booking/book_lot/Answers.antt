@@ -11,10 +11,10 @@ pub arrive-requires : goal.arrive-requires
 unfolding weight_in
 arrive-requires c =
     let a = c.args in let p = c.requires in let l = a.lot in
-    let at = c.result-index-index.ensures in
+    let at = c.result_index-index.ensures in
     let own = index_within a.members a.years l.member a.contract p.member p.house.1 in
     let w = p.weighed l.member p.member in
-    let same : weight l.member l.contract (get_or (records a.results.now) c.result-index-index.result (pos 0)) (records a.lots.now) ≡ weight_in a.years (books_in a.lots.now a.results.now) l.member a.contract
+    let same : weight l.member l.contract (get_or (records a.results.now) c.result_index-index.result (pos 0)) (records a.lots.now) ≡ weight_in a.years (books_in a.lots.now a.results.now) l.member a.contract
     = ap (λ (k : ℕ). weight l.member l.contract (get_or (records a.results.now) k (pos 0)) (records a.lots.now)) at
     ∙ ap (λ (k : ℕ). weight l.member k (result_in a.years (books_in a.lots.now a.results.now) l.member a.contract) (records a.lots.now)) p.contract in
     record {
@@ -31,7 +31,7 @@ pub returns : goal.returns
 unfolding arrival
 returns c =
     let a = c.args in let l = a.lot in let e = c.arrive.ensures in
-    let at = c.result-index-index.ensures in
+    let at = c.result_index-index.ensures in
     let b = books_in a.lots.now a.results.now in
     let results : records c.arrive.new.results ≡ (arrival a.years a.contract l b).results
     = e.results ∙ ap (λ (k : ℕ). set (records a.results.now) k (get_or (records a.results.now) k (pos 0) +ℤ earnings l (records a.lots.now))) at in

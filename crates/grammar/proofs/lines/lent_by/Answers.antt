@@ -5,14 +5,14 @@ use Rattle.grammar.proofs.Cutting.{lines_split, line_shorter}
 use Rattle.grammar.proofs.Lender.{lent_here, lent_later, lent_nowhere}
 use Rattle.grammar.proofs.lines.lent_by.Goals as goal
 
-pub returns-then-not-is-copied : goal.returns-then-not-is-copied
-returns-then-not-is-copied c =
+pub returns-then-not-is_copied : goal.returns-then-not-is_copied
+returns-then-not-is_copied c =
     let rest = c.loop-rest.rest.now in
-    let line = c.first-line.result.0.now in
-    let behind = c.first-line.result.1.now in
+    let line = c.first_line.result.0.now in
+    let behind = c.first_line.result.1.now in
     let some : 0 < length rest = omega (arith, false-eqb (length rest) 0 c.loop-rest-test.ensures) in
-    let split = lines_split rest line behind some c.first-line.ensures.front c.first-line.ensures.back in
-    c.lent-with.ensures ∙ ap lending_asked c.parse.ensures ∙ lent_here (lines rest) (lines behind) line split (sym c.if-not-is-copied.ensures) ∙ c.loop-rest.invariant
+    let split = lines_split rest line behind some c.first_line.ensures.front c.first_line.ensures.back in
+    c.lent_with.ensures ∙ ap lending_asked c.parse.ensures ∙ lent_here (lines rest) (lines behind) line split (sym c.if-not-is_copied.ensures) ∙ c.loop-rest.invariant
 
 pub loop-rest-smaller : goal.loop-rest-smaller
 loop-rest-smaller c =

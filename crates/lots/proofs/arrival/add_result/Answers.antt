@@ -5,8 +5,8 @@ use Rattle.line.specs.Tables.{records, whole}
 use Rattle.lots.proofs.Results.{added, take_set_in}
 use Rattle.lots.proofs.arrival.add_result.Goals as goal
 
-pub overflow-add-results : goal.overflow-add-results
-overflow-add-results c =
+pub overflow_add-results : goal.overflow_add-results
+overflow_add-results c =
     let t = c.args.results.now in
     let e = get_or-take t.used (whole t) c.args.index (pos 0) c.requires.there in
     (added (get_or (whole t) c.args.index (pos 0)) c.args.amount (subst (λ (x : ℤ). nat_abs x + nat_abs c.args.amount ≤ 2000000000000000000) e c.requires.bound)).fits

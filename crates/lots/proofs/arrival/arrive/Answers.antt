@@ -10,14 +10,14 @@ use Rattle.lots.proofs.arrival.arrive.Goals as goal
 
 pub returns : goal.returns
 returns c =
-    let a = c.args.lot in let i = c.args.index in let t = c.take-in-earned in let k = c.add-result.ensures in
+    let a = c.args.lot in let i = c.args.index in let t = c.take_in-earned in let k = c.add_result.ensures in
     let ls = records c.args.lots.now in let rs = records c.args.results.now in
     let x = get_or rs i (pos 0) in
-    let e : records c.add-result.new.results ≡ set rs i (x +ℤ earnings a ls) = search rules in
+    let e : records c.add_result.new.results ≡ set rs i (x +ℤ earnings a ls) = search rules in
     let lr = length-take-le c.args.results.now.used (whole c.args.results.now) c.requires.within in
     let lt : i < length rs = omega (arith, c.requires.there) in
-    let y : get_or (records c.add-result.new.results) i (pos 0) ≡ x +ℤ earnings a ls = ap (λ zs. get_or zs i (pos 0)) e ∙ get_or-set_same rs i (x +ℤ earnings a ls) (pos 0) lt in
-    let l = booked a ls x (get_or (records c.add-result.new.results) i (pos 0)) c.requires.kept.fitting c.requires.kept.sided c.requires.fit y c.requires.kept.sound.1 in
+    let y : get_or (records c.add_result.new.results) i (pos 0) ≡ x +ℤ earnings a ls = ap (λ zs. get_or zs i (pos 0)) e ∙ get_or-set_same rs i (x +ℤ earnings a ls) (pos 0) lt in
+    let l = booked a ls x (get_or (records c.add_result.new.results) i (pos 0)) c.requires.kept.fitting c.requires.kept.sided c.requires.fit y c.requires.kept.sound.1 in
     record {
       lots = t.ensures.records;
       results = e;
@@ -26,5 +26,5 @@ returns c =
       lengths = (t.ensures.length, k.length);
       used = (t.ensures.used, k.used);
       behind = k.behind;
-      laws = subst (λ (xs : List Lot). Booked a ls xs x (get_or (records c.add-result.new.results) i (pos 0))) (sym t.ensures.records) l;
+      laws = subst (λ (xs : List Lot). Booked a ls xs x (get_or (records c.add_result.new.results) i (pos 0))) (sym t.ensures.records) l;
     }

@@ -12,8 +12,8 @@ use Rattle.lots.proofs.Fits.{fit_parts}
 use Rattle.lots.proofs.Keeping.{closing_free, arrived_fit, arrived_sided}
 use Rattle.lots.proofs.arrival.take_in.Goals as goal
 
-pub put-rest-requires : goal.put-rest-requires
-put-rest-requires c =
+pub put_rest-requires : goal.put_rest-requires
+put_rest-requires c =
     let a = c.args.lot in let k = c.close-rest in
     let ku = k.ensures.used in let kl = k.ensures.length in let rm = c.requires.room in
     record {
@@ -25,10 +25,10 @@ put-rest-requires c =
 pub returns : goal.returns
 unfolding arrived earnings
 returns c =
-    let a = c.args.lot in let k = c.close-rest in let p = c.put-rest.ensures in
+    let a = c.args.lot in let k = c.close-rest in let p = c.put_rest.ensures in
     let rs = records c.args.lots.now in
     let r = closing a a.quantity rs in
-    let e : records c.put-rest.new.lots ≡ arrived a rs = p.records ∙ ap (rested (with_quantity a k.result.left)) k.ensures.records ∙ ap (λ n. rested (with_quantity a n) r.lots) k.ensures.left in
+    let e : records c.put_rest.new.lots ≡ arrived a rs = p.records ∙ ap (rested (with_quantity a k.result.left)) k.ensures.records ∙ ap (λ n. rested (with_quantity a n) r.lots) k.ensures.left in
     let hb = k.ensures.bound in
     let hq = (fit_parts a c.requires.fit).most in
     let sm : nat_abs k.result.earned ≤ 4000000 * 2500 = omega arith in

@@ -12,11 +12,11 @@ use Rattle.lots.proofs.Fits.{fit_parts, all_fit}
 use Rattle.lots.proofs.Runs.{behind_from, closed_all}
 use Rattle.lots.proofs.close.close.Goals as goal
 
-pub close-part-rest-requires : goal.close-part-rest-requires
-close-part-rest-requires c =
-    let t = c.args.lots.now in let u = c.used-up-used in let a = c.args.lot in
+pub close_part-rest-requires : goal.close_part-rest-requires
+close_part-rest-requires c =
+    let t = c.args.lots.now in let u = c.used_up-used in let a = c.args.lot in
     let hb = u.ensures.bound in
-    let is : c.spot-from.result ≡ spot lot_place (first_place c.args.lot.member c.args.lot.contract) (records t) = c.spot-from.ensures.spot ∙ ap (λ p. spot lot_place p (records t)) c.first-key-key.ensures in
+    let is : c.spot-from.result ≡ spot lot_place (first_place c.args.lot.member c.args.lot.contract) (records t) = c.spot-from.ensures.spot ∙ ap (λ p. spot lot_place p (records t)) c.first_key-key.ensures in
     record {
       kept = c.requires.kept;
       there = u.ensures.within;
@@ -28,10 +28,10 @@ close-part-rest-requires c =
 
 pub returns : goal.returns
 returns c =
-    let t = c.args.lots.now in let u = c.used-up-used in let r = c.close-part-rest in let k = c.cut-run.ensures in let a = c.args.lot in
+    let t = c.args.lots.now in let u = c.used_up-used in let r = c.close_part-rest in let k = c.cut_run.ensures in let a = c.args.lot in
     let lu = length-take-le t.used (whole t) c.requires.kept.sound.0 in
     let w = u.ensures.within in
-    let is : c.spot-from.result ≡ spot lot_place (first_place c.args.lot.member c.args.lot.contract) (records t) = c.spot-from.ensures.spot ∙ ap (λ p. spot lot_place p (records t)) c.first-key-key.ensures in
+    let is : c.spot-from.result ≡ spot lot_place (first_place c.args.lot.member c.args.lot.contract) (records t) = c.spot-from.ensures.spot ∙ ap (λ p. spot lot_place p (records t)) c.first_key-key.ensures in
     let ul : u.result.upto ≤ length (records t) = omega arith in
     let e = closed_all a (records t) _ _ c.spot-from.result u.result.upto a.quantity u.result.left u.result.earned (all_fit (records t) c.requires.kept.fitting) is u.ensures.order ul u.ensures.does r.ensures.records k.records in
     let hu = u.ensures.bound in let hr = r.ensures.bound in let hq = (fit_parts a c.requires.fit).most in

@@ -4,8 +4,8 @@ use Rattle.std.proofs.lemmas.Int.{to_z-of_z}
 use Rattle.lots.proofs.Products.{bounded, plain, small}
 use Rattle.lots.proofs.close.difference.Goals as goal
 
-pub overflow-mul-result : goal.overflow-mul-result
-overflow-mul-result c =
+pub overflow_mul-result : goal.overflow_mul-result
+overflow_mul-result c =
     let q = c.args.quantity in let s = c.args.sold in let b = c.args.bought in
     let h = bounded q s b c.requires.sold c.requires.bought in
     subst (λ (z : ℤ). SFits w64 z) (sym (plain q s b c.requires.quantity c.requires.sold c.requires.bought)) (small _ (omega arith))

@@ -14,15 +14,15 @@ use Rattle.lots.proofs.Fits.{fit_at}
 use Rattle.lots.proofs.Sums.{sum_whole, sum_more, sum_end, sum_past}
 use Rattle.lots.proofs.position.position_of.Goals as goal
 
-pub holding-of-one-requires : goal.holding-of-one-requires
-holding-of-one-requires c =
+pub holding_of-one-requires : goal.holding_of-one-requires
+holding_of-one-requires c =
     let t = c.args.lots.now in
     let lu = length-take-le t.used (whole t) c.requires.kept.sound.0 in
     fit_at (records t) c.loop-i.i c.at-lot.result c.requires.kept.fitting (omega arith) c.at-lot.ensures
 
 pub loop-i-preserved : goal.loop-i-preserved
 loop-i-preserved c =
-    let t = c.args.lots.now in let a = c.args in let i = c.loop-i.invariant in let l = c.at-lot.result in let w = c.holding-of-one in
+    let t = c.args.lots.now in let a = c.args in let i = c.loop-i.invariant in let l = c.at-lot.result in let w = c.holding_of-one in
     let rs = records t in
     let lu = length-take-le t.used (whole t) c.requires.kept.sound.0 in
     let lt : c.loop-i.i < length rs = omega arith in
@@ -43,7 +43,7 @@ returns c =
     let t = c.args.lots.now in let a = c.args in let i = c.loop-i.invariant in
     let rs = records t in
     let lu = length-take-le t.used (whole t) c.requires.kept.sound.0 in
-    let is : c.spot-from.result ≡ spot lot_place (first_place a.member a.contract) rs = c.spot-from.ensures.spot ∙ ap (λ p. spot lot_place p rs) c.first-key-key.ensures in
+    let is : c.spot-from.result ≡ spot lot_place (first_place a.member a.contract) rs = c.spot-from.ensures.spot ∙ ap (λ p. spot lot_place p rs) c.first_key-key.ensures in
     let le : length rs ≤ c.loop-i.i = omega arith in
     let zn = sum_end lot_net a.member a.contract rs c.loop-i.i le in
     let zv = sum_end lot_value a.member a.contract rs c.loop-i.i le in
@@ -58,7 +58,7 @@ returns-then-lot-member c =
     let t = c.args.lots.now in let a = c.args in let i = c.loop-i.invariant in let l = c.at-lot.result in
     let rs = records t in
     let lu = length-take-le t.used (whole t) c.requires.kept.sound.0 in
-    let is : c.spot-from.result ≡ spot lot_place (first_place a.member a.contract) rs = c.spot-from.ensures.spot ∙ ap (λ p. spot lot_place p rs) c.first-key-key.ensures in
+    let is : c.spot-from.result ≡ spot lot_place (first_place a.member a.contract) rs = c.spot-from.ensures.spot ∙ ap (λ p. spot lot_place p rs) c.first_key-key.ensures in
     let lt : c.loop-i.i < length rs = omega arith in
     let o : held_by a.member a.contract l ≡ false = ⊎_elim (λ ne. and_left _ _ (ne_eqb _ _ ne)) (λ b. and_right _ _ (ne_eqb _ _ b.1)) c.then-lot-member.either in
     let zn = sum_past lot_net a.member a.contract rs c.spot-from.result c.loop-i.i l (opened lot_place rs c.requires.kept.sound.1) is i.0 lt c.at-lot.ensures o in

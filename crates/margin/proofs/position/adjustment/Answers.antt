@@ -9,8 +9,8 @@ use Rattle.margin.proofs.position.adjustment.Goals as goal
 pub returns : goal.returns
 unfolding adjustment
 returns c =
-    let cover : to_z w128 (of_z w128 c.signed-for-days.result) ≡ adjustment c.args.opening.now.price c.args.gas_days c.args.position.now
-    = to_z-of_z w128 c.signed-for-days.result (search rules) ∙ c.signed-for-days.ensures.product ∙ ap (λ (z : ℤ). pos c.args.gas_days *ℤ z) (to_z-of_z w128 c.daily-adjustment.result (search rules) ∙ c.daily-adjustment.ensures.daily) in
+    let cover : to_z w128 (of_z w128 c.signed_for_days.result) ≡ adjustment c.args.opening.now.price c.args.gas_days c.args.position.now
+    = to_z-of_z w128 c.signed_for_days.result (search rules) ∙ c.signed_for_days.ensures.product ∙ ap (λ (z : ℤ). pos c.args.gas_days *ℤ z) (to_z-of_z w128 c.daily_adjustment.result (search rules) ∙ c.daily_adjustment.ensures.daily) in
     record {
       cover = cover;
       lots = λ lots held. cover ∙ adjustment_of_lots c.args.opening.now.price c.args.gas_days c.args.position.now lots held;

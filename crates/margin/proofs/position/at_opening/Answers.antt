@@ -14,8 +14,8 @@ small c =
     let fits : SFits w64 c.args.position.now.net = search rules in
     record { left = omega (arith, ints); right = omega (arith, ints); small = omega (arith, most c) }
 
-pub overflow-mul-result : goal.overflow-mul-result
-overflow-mul-result c = product_fits c.from.result c.from-2.result (pos c.args.opening.now.price) c.args.position.now.net (small c)
+pub overflow_mul-result : goal.overflow_mul-result
+overflow_mul-result c = product_fits c.from.result c.from-2.result (pos c.args.opening.now.price) c.args.position.now.net (small c)
 
 pub returns : goal.returns
 returns c =

@@ -6,8 +6,8 @@ use Rattle.margin.proofs.position.for_days.Goals as goal
 most : (c : goal.After-from) → c.from.result * c.args.amount ≤ 2 ^ 32 * c.args.amount
 most c = mul-le c.from.result c.args.amount (2 ^ 32) c.args.amount (omega arith) (omega arith)
 
-pub overflow-mul-result : goal.overflow-mul-result
-overflow-mul-result c = omega (arith, most c)
+pub overflow_mul-result : goal.overflow_mul-result
+overflow_mul-result c = omega (arith, most c)
 
 pub returns : goal.returns
 returns c = record { product = cc; bounded = most c }

@@ -10,8 +10,8 @@ most c = size_le (pos c.args.gas_days) c.args.amount (2 ^ 32) (nat_abs c.args.am
 small : (c : goal.After-from) → Small c.from.result c.args.amount (pos c.args.gas_days) c.args.amount
 small c = record { left = omega (arith, ints); right = omega (arith, ints); small = omega (arith, most c) }
 
-pub overflow-mul-result : goal.overflow-mul-result
-overflow-mul-result c = product_fits c.from.result c.args.amount (pos c.args.gas_days) c.args.amount (small c)
+pub overflow_mul-result : goal.overflow_mul-result
+overflow_mul-result c = product_fits c.from.result c.args.amount (pos c.args.gas_days) c.args.amount (small c)
 
 pub returns : goal.returns
 returns c =

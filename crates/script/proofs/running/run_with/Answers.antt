@@ -3,6 +3,6 @@ use Rattle.script.proofs.running.run_with.Goals as goal
 
 pub returns : goal.returns
 returns g c = record {
-  counts = c.in-ok-summary.ensures;
-  ends = (vec_items c.play-all.new.desk.output, c.in-ok-write-summary.ensures);
+  counts = c.in_ok-summary.ensures;
+  ends = (vec_items c.play_all.new.desk.output, c.in_ok-write_summary.ensures);
 }

@@ -17,7 +17,7 @@ returns-in-Trading g c =
     let most = days_bound h.first_year c.gas_days.result (weight p.result) c.args.contract c.gas_days.ensures p.ensures.bound in
     let small : nat_abs c.added.result ≤ 148800000000000000 = omega (arith, c.added.ensures.weighed, most) in
     record {
-      is = back ∙ c.added.ensures.cover ∙ listed_adds units (view h) c.args.member c.args.contract c.state_of.result (price_in c.price-of-opening.result) c.gas_days.result p.result c.in-Trading.is c.state_of.ensures c.price-of-opening.ensures c.gas_days.ensures p.ensures.is;
+      is = back ∙ c.added.ensures.cover ∙ listed_adds units (view h) c.args.member c.args.contract c.state_of.result (price_in c.price_of-opening.result) c.gas_days.result p.result c.in-Trading.is c.state_of.ensures c.price_of-opening.ensures c.gas_days.ensures p.ensures.is;
       bound = subst (λ (z : ℤ). nat_abs z ≤ 148800000000000000) (sym back) small;
     }
 
@@ -26,7 +26,7 @@ returns-in-Delivering g c =
     let h = c.args.self.now in
     let units = g.R.MarginRule.units c.args.rule.now in
     let p = c.position-position-in-Delivering in
-    let days = c.gas-days-in-Delivering in
+    let days = c.gas_days-in-Delivering in
     let most = loss_bound h.first_year days.result c.args.contract p.result days.ensures p.ensures.bound in
     let small : c.loss.result ≤ 148800000000000000 = omega (arith, c.loss.ensures.cover, most) in
     let back : to_z w128 c.loss.result ≡ pos c.loss.result = omega (arith, ints) in

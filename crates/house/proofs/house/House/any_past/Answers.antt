@@ -9,12 +9,12 @@ loop-at-init c = let e : c.args.from + c.args.count - c.args.from ≡ c.args.cou
 pub loop-at-preserved : goal.loop-at-preserved
 loop-at-preserved c =
     let states = c.args.self.now.states in let at = c.loop-at.at in let end = c.args.from + c.args.count in
-    ap (λ (b : Bool). b || any_past states (at + 1) (end - (at + 1))) c.if-is-past.ensures ∙ sym (any_past_step states at end c.loop-at-test.true) ∙ c.loop-at.invariant
+    ap (λ (b : Bool). b || any_past states (at + 1) (end - (at + 1))) c.if-is_past.ensures ∙ sym (any_past_step states at end c.loop-at-test.true) ∙ c.loop-at.invariant
 
-pub returns-then-is-past : goal.returns-then-is-past
-returns-then-is-past c =
+pub returns-then-is_past : goal.returns-then-is_past
+returns-then-is_past c =
     let states = c.args.self.now.states in let at = c.loop-at.at in let end = c.args.from + c.args.count in
-    ap (λ (b : Bool). b || any_past states (at + 1) (end - (at + 1))) c.if-is-past.ensures ∙ sym (any_past_step states at end c.loop-at-test.true) ∙ c.loop-at.invariant
+    ap (λ (b : Bool). b || any_past states (at + 1) (end - (at + 1))) c.if-is_past.ensures ∙ sym (any_past_step states at end c.loop-at-test.true) ∙ c.loop-at.invariant
 
 pub returns : goal.returns
 returns c = sym (any_past_none c.args.self.now.states c.loop-at.at (c.args.from + c.args.count) c.loop-at-test.false) ∙ c.loop-at.invariant

@@ -10,8 +10,8 @@ use Rattle.house.specs.Sound.{Weighed}
 use Rattle.house.proofs.Books.{blank_length, blank_weighed}
 use Rattle.house.proofs.house.House.begin.Goals as goal
 
-pub invariant-of-self : goal.invariant-of-self
-invariant-of-self c =
+pub invariant_of-self : goal.invariant_of-self
+invariant_of-self c =
     let h = c.args.self.now in
     let lots = c.clear-2.new.self in
     let none : records lots ≡ [] = ap (λ x. x.records) c.clear-2.ensures.holds in

@@ -11,17 +11,17 @@ returns-then-at-months c =
     let e = lt-ltb c.args.slot (12 * y) (omega arith) in
     rw e
 
-pub returns-then-at-behind-quarters : goal.returns-then-at-behind-quarters
+pub returns-then-at-behind_quarters : goal.returns-then-at-behind_quarters
 unfolding contract_at
-returns-then-at-behind-quarters c =
+returns-then-at-behind_quarters c =
     let y = c.args.self.now.years in
     let e = le-ltb c.args.slot (12 * y) (omega arith) in
     let f = lt-ltb c.args.slot (16 * y) (omega arith) in
     rw (e, f)
 
-pub returns-else-at-behind-quarters : goal.returns-else-at-behind-quarters
+pub returns-else-at-behind_quarters : goal.returns-else-at-behind_quarters
 unfolding contract_at
-returns-else-at-behind-quarters c =
+returns-else-at-behind_quarters c =
     let y = c.args.self.now.years in
     let e = le-ltb c.args.slot (12 * y) (omega arith) in
     let f = le-ltb c.args.slot (16 * y) (omega arith) in

@@ -6,7 +6,7 @@ use Rattle.house.proofs.house.House.deposit.Goals as goal
 
 pub returns : goal.returns
 returns g c = record {
-  does = c.pay-in.ensures;
-  refused = refusal_is _ _ _ _ _ c.pay-in.ensures;
-  history = goes_on _ _ (deposit c.args.member c.args.amount) (ap (λ o. o.left) c.pay-in.ensures);
+  does = c.pay_in.ensures;
+  refused = refusal_is _ _ _ _ _ c.pay_in.ensures;
+  history = goes_on _ _ (deposit c.args.member c.args.amount) (ap (λ o. o.left) c.pay_in.ensures);
 }

@@ -7,7 +7,7 @@ use Rattle.house.proofs.house.House.halt.Goals as goal
 
 pub returns : goal.returns
 returns c = record {
-  does = c.try-halt.ensures;
-  refused = refusal_is _ _ _ _ _ c.try-halt.ensures;
-  history = λ cash. goes_on _ _ (halt c.args.contract) (ap (λ o. beside o.left cash) c.try-halt.ensures);
+  does = c.try_halt.ensures;
+  refused = refusal_is _ _ _ _ _ c.try_halt.ensures;
+  history = λ cash. goes_on _ _ (halt c.args.contract) (ap (λ o. beside o.left cash) c.try_halt.ensures);
 }

@@ -7,7 +7,7 @@ use Rattle.house.proofs.house.House.list.Goals as goal
 
 pub returns : goal.returns
 returns c = record {
-  does = c.try-list.ensures;
-  refused = refusal_is _ _ _ _ _ c.try-list.ensures;
-  history = λ cash. goes_on _ _ (list c.args.contract c.args.price c.args.rate) (ap (λ o. beside o.left cash) c.try-list.ensures);
+  does = c.try_list.ensures;
+  refused = refusal_is _ _ _ _ _ c.try_list.ensures;
+  history = λ cash. goes_on _ _ (list c.args.contract c.args.price c.args.rate) (ap (λ o. beside o.left cash) c.try_list.ensures);
 }

@@ -5,7 +5,7 @@ use Rattle.house.proofs.house.House.open.Goals as goal
 
 pub returns : goal.returns
 returns c = record {
-  does = c.try-open.ensures;
-  refused = refusal_is _ _ _ _ _ c.try-open.ensures;
-  history = opening_begins (view c.args.self.now) c.args.members c.args.first_year c.args.years _ _ c.try-open.ensures;
+  does = c.try_open.ensures;
+  refused = refusal_is _ _ _ _ _ c.try_open.ensures;
+  history = opening_begins (view c.args.self.now) c.args.members c.args.first_year c.args.years _ _ c.try_open.ensures;
 }

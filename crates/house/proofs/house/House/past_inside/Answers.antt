@@ -10,14 +10,14 @@ returns-in-Quarter c =
     let s = view c.args.self.now in
     c.any_past.ensures ∙ sym (inside_quarter s c.in-Quarter.quarter) ∙ sym (ap (past_inside s) c.in-Quarter.is)
 
-pub returns-then-any-past : goal.returns-then-any-past
-returns-then-any-past c =
+pub returns-then-any_past : goal.returns-then-any_past
+returns-then-any_past c =
     let s = view c.args.self.now in
     let months = any_past s.states (12 * c.in-Year.year) 12 in
-    c.if-any-past.true ∙ sym (ap (λ (b : Bool). b || months) (sym c.any-past-in-Year.ensures ∙ c.if-any-past.true)) ∙ sym (inside_year s c.in-Year.year) ∙ sym (ap (past_inside s) c.in-Year.is)
+    c.if-any_past.true ∙ sym (ap (λ (b : Bool). b || months) (sym c.any_past-in-Year.ensures ∙ c.if-any_past.true)) ∙ sym (inside_year s c.in-Year.year) ∙ sym (ap (past_inside s) c.in-Year.is)
 
-pub returns-else-any-past : goal.returns-else-any-past
-returns-else-any-past c =
+pub returns-else-any_past : goal.returns-else-any_past
+returns-else-any_past c =
     let s = view c.args.self.now in
     let months = any_past s.states (12 * c.in-Year.year) 12 in
-    c.any-past-else-any-past.ensures ∙ sym (ap (λ (b : Bool). b || months) (sym c.any-past-in-Year.ensures ∙ c.if-any-past.false)) ∙ sym (inside_year s c.in-Year.year) ∙ sym (ap (past_inside s) c.in-Year.is)
+    c.any_past-else-any_past.ensures ∙ sym (ap (λ (b : Bool). b || months) (sym c.any_past-in-Year.ensures ∙ c.if-any_past.false)) ∙ sym (inside_year s c.in-Year.year) ∙ sym (ap (past_inside s) c.in-Year.is)

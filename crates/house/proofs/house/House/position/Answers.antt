@@ -13,17 +13,17 @@ pub returns : goal.returns
 unfolding position
 returns c =
     let h = c.args.self.now in
-    let held = c.position-of-held in
+    let held = c.position_of-held in
     let n = in_64 held.result.net (omega (arith, held.ensures.small)) in
     let v = in_64 held.result.value (omega (arith, held.ensures.bound)) in
-    let r = in_64 c.result-of.result (omega (arith, c.result-of.ensures.bound)) in
+    let r = in_64 c.result_of.result (omega (arith, c.result_of.ensures.bound)) in
     let number = c.number.ensures in
-    let is = same_position held.result.net _ c.result-of.result _ held.result.value _
+    let is = same_position held.result.net _ c.result_of.result _ held.result.value _
     (held.ensures.net ∙ ap (λ (k : ℕ). net c.args.member k (records h.lots)) number)
-    c.result-of.ensures.is
+    c.result_of.ensures.is
     (held.ensures.value ∙ ap (λ (k : ℕ). value c.args.member k (records h.lots)) number) in
-    let same = same_position _ held.result.net _ c.result-of.result _ held.result.value n r v in
+    let same = same_position _ held.result.net _ c.result_of.result _ held.result.value n r v in
     record {
       is = same ∙ is;
-      bound = subst (λ (q : Position). weight q ≤ 400000000000000) (sym same) (weighs held.result.net c.result-of.result held.result.value held.ensures.small held.ensures.bound c.result-of.ensures.bound);
+      bound = subst (λ (q : Position). weight q ≤ 400000000000000) (sym same) (weighs held.result.net c.result_of.result held.result.value held.ensures.small held.ensures.bound c.result_of.ensures.bound);
     }

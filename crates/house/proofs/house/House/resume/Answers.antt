@@ -7,7 +7,7 @@ use Rattle.house.proofs.house.House.resume.Goals as goal
 
 pub returns : goal.returns
 returns c = record {
-  does = c.try-resume.ensures;
-  refused = refusal_is _ _ _ _ _ c.try-resume.ensures;
-  history = λ cash. goes_on _ _ (resume c.args.contract c.args.price) (ap (λ o. beside o.left cash) c.try-resume.ensures);
+  does = c.try_resume.ensures;
+  refused = refusal_is _ _ _ _ _ c.try_resume.ensures;
+  history = λ cash. goes_on _ _ (resume c.args.contract c.args.price) (ap (λ o. beside o.left cash) c.try_resume.ensures);
 }

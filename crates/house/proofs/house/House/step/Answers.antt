@@ -7,7 +7,7 @@ use Rattle.house.proofs.house.House.step.Goals as goal
 
 pub returns : goal.returns
 returns c = record {
-  does = c.go-on.ensures;
-  refused = refusal_is _ _ _ _ _ c.go-on.ensures;
-  history = λ cash. goes_on _ _ step (ap (λ o. beside o.left cash) c.go-on.ensures);
+  does = c.go_on.ensures;
+  refused = refusal_is _ _ _ _ _ c.go_on.ensures;
+  history = λ cash. goes_on _ _ step (ap (λ o. beside o.left cash) c.go_on.ensures);
 }

@@ -3,8 +3,8 @@ use Rattle.std.proofs.Common.{◌+◌, ◌*◌, ◌≤◌, arith}
 use Rattle.std.proofs.lemmas.Nat.{mul-le}
 use Rattle.margin.proofs.hub.HubRuleMarginRule.short.Goals as goal
 
-pub overflow-mul-taxed : goal.overflow-mul-taxed
-overflow-mul-taxed c =
+pub overflow_mul-taxed : goal.overflow_mul-taxed
+overflow_mul-taxed c =
     let shared : c.from.result * c.from-2.result ≤ 4000000 * 10000 = mul-le c.from.result c.from-2.result 4000000 10000 (omega arith) (omega arith) in
     let taxed : c.from.result * c.from-2.result * (10000 + c.from-3.result) ≤ 4000000 * 10000 * 12500 = mul-le (c.from.result * c.from-2.result) (10000 + c.from-3.result) (4000000 * 10000) 12500 shared (omega arith) in
     omega arith

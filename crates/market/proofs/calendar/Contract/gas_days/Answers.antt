@@ -6,8 +6,8 @@ use Rattle.market.proofs.calendar.Contract.gas_days.Goals as goal
 
 pub loop-month-preserved : goal.loop-month-preserved
 loop-month-preserved c =
-    let here = c.month-days-days.ensures in
-    let less : c.loop-month.month < c.first-month-first.result + c.from.result = omega arith in (
+    let here = c.month_days-days.ensures in
+    let less : c.loop-month.month < c.first_month-first.result + c.from.result = omega arith in (
       one_more _ _ _ _ _ _ here less c.loop-month.invariant.0,
       omega (arith, here, month_days_at_most c.args.first_year c.loop-month.month),
     )
@@ -15,7 +15,7 @@ loop-month-preserved c =
 pub returns : goal.returns
 returns c =
     let count : c.from.result ≡ month_count c.args.self = omega arith in
-    let over : c.first-month-first.result + c.from.result ≤ c.loop-month.month = omega arith in
+    let over : c.first_month-first.result + c.from.result ≤ c.loop-month.month = omega arith in
     let none = none_to_come c.args.first_year _ _ over in
-    let all = gas_days_are c.args.first_year c.args.self _ _ c.first-month-first.ensures count in
+    let all = gas_days_are c.args.first_year c.args.self _ _ c.first_month-first.ensures count in
     omega arith

@@ -3,17 +3,17 @@ use Rattle.std.proofs.Common.{rules}
 use Rattle.market.specs.Calendar.{contract_of}
 use Rattle.market.proofs.calendar.Contract.of.Goals as goal
 
-pub returns-then-is-among : goal.returns-then-is-among
+pub returns-then-is_among : goal.returns-then-is_among
 unfolding contract_of
-returns-then-is-among c = search rules
+returns-then-is_among c = search rules
 
-pub returns-then-is-among-2 : goal.returns-then-is-among-2
+pub returns-then-is_among-2 : goal.returns-then-is_among-2
 unfolding contract_of
-returns-then-is-among-2 c = search rules
+returns-then-is_among-2 c = search rules
 
-pub returns-then-is-among-3 : goal.returns-then-is-among-3
+pub returns-then-is_among-3 : goal.returns-then-is_among-3
 unfolding contract_of
-returns-then-is-among-3 c = search rules
+returns-then-is_among-3 c = search rules
 
 pub returns : goal.returns
 unfolding contract_of

@@ -11,10 +11,10 @@ loop-place-preserved c =
     ap (λ (es : List Entry). set es c.loop-place.place nothing) c.loop-place.invariant
     ∙ clears_one c.loop-place.place c.args.entries.now inside
 
-pub invariant-of-result : goal.invariant-of-result
-invariant-of-result c =
+pub invariant_of-result : goal.invariant_of-result
+invariant_of-result c =
     let o = opened c.loop-place.place c.args.entries.now c.loop-place.entries c.loop-place.invariant c.loop-place.auto.entries (omega arith) in
-    (omega arith, (refl, (o.agree, (o.sums, (o.free, tt)))))
+    record { within = omega arith; long = refl; agree = o.agree; sums = o.sums; free = o.free }
 
 pub returns : goal.returns
 returns c =

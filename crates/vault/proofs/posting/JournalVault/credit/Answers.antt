@@ -4,18 +4,18 @@ use Rattle.vault.proofs.Postings.{whole}
 use Rattle.vault.proofs.Movements.{credit_taken}
 use Rattle.vault.proofs.posting.JournalVault.credit.Goals as goal
 
-pub overflow-sub-passes-ceiling : goal.overflow-sub-passes-ceiling
-overflow-sub-passes-ceiling c =
+pub overflow_sub-passes_ceiling : goal.overflow_sub-passes_ceiling
+overflow_sub-passes_ceiling c =
     let j = c.args.self.now in
     let low = (whole j.entries.now j.used j.sums).low c.args.account in
     omega arith
 
-pub invariant-of-self : goal.invariant-of-self
-invariant-of-self c =
+pub invariant_of-self : goal.invariant_of-self
+invariant_of-self c =
     let j = c.args.self.now in
     let p = (credit_taken j.balances j.entries.now j.used c.args.account c.args.amount c.balance-held.result c.left.result
-    j.agree j.sums j.free c.balance-held.ensures c.left.ensures c.in-ok-check-movement.ensures).keeps in
-    (p.within, (p.long, (p.agree, (p.sums, (p.free, tt)))))
+    j.agree j.sums j.free c.balance-held.ensures c.left.ensures c.in_ok-check_movement.ensures).keeps in
+    record { within = p.within; long = p.long; agree = p.agree; sums = p.sums; free = p.free }
 
 pub returns : goal.returns
 returns c =

@@ -7,5 +7,5 @@ zeros zero a = refl
 zeros (suc n) zero = refl
 zeros (suc n) (suc a) = zeros n a
 
-pub invariant-of-result : goal.invariant-of-result
-invariant-of-result c = (refl, ((λ a. omega (arith, zeros 64 a)), tt))
+pub invariant_of-result : goal.invariant_of-result
+invariant_of-result c = record { long = refl; low = λ a. omega (arith, zeros 64 a) }
