@@ -1,35 +1,20 @@
 -- What cover a member owes, in kuruş.
-use Rattle.std.specs.Prelude.{ℕ, ◌+◌, Bool, ℤ, pos, nat_lt}
-use Rattle.market.specs.Calendar.{gas_days, contracts_of}
-use Rattle.market.specs.declared.calendar.Contract.{Contract}
-use Rattle.market.specs.declared.state.ContractState.{ContractState}
-use Rattle.market.specs.declared.state.ContractState.TheVariants.{Unlisted, Trading, Halted, Delivering, Ended}
-use Rattle.margin.specs.Cover.{added, loss, positive_part, sum_over}
+use Rattle.std.specs.Prelude.{ℕ, ◌+◌, Bool, ℤ, pos, negsuc, nat_lt}
 use Rattle.margin.specs.Units.{Units}
-use Rattle.margin.specs.declared.position.Position.{Position}
-use Rattle.history.specs.State.{State, Price}
-use Rattle.history.specs.Standing.{state_of, price_of}
-use Rattle.history.specs.Books.{position}
+use Rattle.history.specs.State.{State}
 
--- what a position adds in a contract of this state: a listed one its collateral, loss and adjustment, a delivering one its loss only, any other nothing
-abbrev pub adds_by_state : ContractState → Units → Price → ℕ → Position → ℤ
-adds_by_state Unlisted units price gas_days p = pos 0
-adds_by_state Trading units price gas_days p = added units price.price price.rate gas_days p
-adds_by_state Halted units price gas_days p = added units price.price price.rate gas_days p
-adds_by_state Delivering units price gas_days p = pos (loss gas_days p)
-adds_by_state Ended units price gas_days p = pos 0
+-- a sum, or 0 where it is negative
+abbrev pub at_least_zero : ℤ → ℕ
+at_least_zero (pos n) = n
+at_least_zero (negsuc n) = 0
 
--- what a contract adds to a member's requirement
-unfoldable pub contract_adds : Units → State → ℕ → Contract → ℤ
-contract_adds units s member c = adds_by_state (state_of s c) units (price_of s c) (gas_days s.first_year c) (position s member c)
+-- what the contracts add to a member's requirement: as long as nothing can be held in them, nothing
+abbrev pub added_by_contracts : Units → State → ℕ → ℤ
+added_by_contracts units s member = pos 0
 
--- what all contracts of the house add to it
-unfoldable pub added_by_contracts : Units → State → ℕ → ℤ
-added_by_contracts units s member = sum_over (contract_adds units s member) (contracts_of s.years)
-
--- a member's requirement: the fixed part, and what the contracts add, or nothing more where that is negative
-unfoldable pub requirement : Units → State → ℕ → ℕ
-requirement units s member = 15000000 + positive_part (added_by_contracts units s member)
+-- a member's requirement: the fixed part, and what the contracts add
+abbrev pub requirement : Units → State → ℕ → ℕ
+requirement units s member = 15000000 + at_least_zero (added_by_contracts units s member)
 
 -- taking an amount from a balance would leave less than a requirement
 abbrev pub leaves_too_little : ℕ → ℕ → ℕ → Bool

@@ -2,6 +2,7 @@ pub mod State
 pub mod Standing
 pub mod Books
 pub mod Cover
+pub mod BooksCover
 pub mod Calls
 pub mod Listing
 pub mod History

@@ -15,7 +15,7 @@ use Rattle.margin.specs.declared.position.Position.{Position}
 use Rattle.history.specs.State.{State, Price}
 use Rattle.history.specs.Standing.{state_of, price_of}
 use Rattle.history.specs.Books.{position}
-use Rattle.history.specs.Cover.{adds_by_state, contract_adds, added_by_contracts}
+use Rattle.history.specs.BooksCover.{adds_by_state, contract_adds, added_by_books}
 
 -- a small figure in 64 bits is itself
 pub in_64 : (z : ℤ) → nat_abs z ≤ 100000000000000 → to_z w64 (of_z w64 z) ≡ z
@@ -95,8 +95,8 @@ unfoldable pub slots_add : Units → State → ℕ → ℕ → ℕ → ℤ
 slots_add units s member from count = sum_over (contract_adds units s member) (map (contract_at s.years) (numbers_from from count))
 
 module _ (units : Units) (s : State) (member : ℕ) where
-  pub slots_all : slots_add units s member 0 (17 * s.years) ≡ added_by_contracts units s member
-  unfolding slots_add added_by_contracts contracts_of
+  pub slots_all : slots_add units s member 0 (17 * s.years) ≡ added_by_books units s member
+  unfolding slots_add added_by_books contracts_of
   slots_all = refl
 
   -- the first of those left, and the others

@@ -13,7 +13,7 @@ use Rattle.lots.specs.Figures as lots
 use Rattle.lots.specs.Sums.{money}
 use Rattle.history.specs.State.{State}
 use Rattle.history.specs.Standing.{no_price}
-use Rattle.history.specs.Cover.{requirement}
+use Rattle.history.specs.BooksCover.{required_by_books}
 
 -- a house of one member, for the year 2025: January trades at the opening price 1,000,000 with the rate 500, and the three trades are booked
 abbrev pub january_traded : State
@@ -41,7 +41,7 @@ pub record Figures : Type 0 where
   pub trades : lots.Worked
   -- collateral, loss and adjustment of what is left
   pub cover : CoverFigures
-  -- the member's requirement under the gas rule
-  pub january_requirement : requirement gas_units january_traded 0 ≡ 26392500
+  -- the member's requirement by its books, under the gas rule
+  pub january_requirement : required_by_books gas_units january_traded 0 ≡ 26392500
   -- what a settlement of January would pay the member
   pub january_settlement : pos (gas_days 2025 (Month 0)) *ℤ money 0 0 (pos 80000) lots.after_sale ≡ neg_ℤ (pos 92380000)

@@ -12,13 +12,13 @@ use Rattle.history.specs.Books.{month_weight}
 abbrev pub Sound : {X : Type 0} → X → Phase → Table X → Type 0
 Sound blank p t = Within t × (is_open p ≡ false → t.used ≡ 0) × (is_open p ≡ true → Cleared blank t)
 
--- an open house has a table of at most so many places
-abbrev pub Limited : {X : Type 0} → ℕ → Phase → Table X → Type 0
-Limited most p t = is_open p ≡ true → length (whole t) ≤ most
+-- a table has at most so many places
+abbrev pub Limited : {X : Type 0} → ℕ → Table X → Type 0
+Limited most t = length (whole t) ≤ most
 
--- an open house has 1 to 64 members, one that is not open has none
+-- an open house has 1 to 64 members
 abbrev pub Sized : Phase → ℕ → Type 0
-Sized p members = (is_open p ≡ false → members ≡ 0) × (is_open p ≡ true → (1 ≤ members) × (members ≤ 64))
+Sized p members = is_open p ≡ true → (1 ≤ members) × (members ≤ 64)
 
 -- an open house has 1 to 4 years, from 2020 to 2090 on
 abbrev pub Dated : Phase → ℕ → ℕ → Type 0

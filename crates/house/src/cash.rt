@@ -23,7 +23,7 @@ fn leaves_too_little(balance: u64, amount: u64, required: u64) -> bool
 impl House<'_> {
     // Credits the member's account, by the rules of a deposit.
     fn pay_in<V: Vault>(&self, vault: &mut V, member: u8, amount: u64) -> Result<(), Refusal>
-        ensures { outcome result (beside (view self.now) (cash vault.new)) ≡ depositing (beside (view self.now) (cash vault.old)) member amount }
+        ensures { outcome result (beside (view self.now) (V.cash vault.new)) ≡ depositing (beside (view self.now) (V.cash vault.old)) member amount }
     {
         self.next_phase(Event::Deposit)?;
         self.known(member)?;
@@ -41,7 +41,7 @@ impl House<'_> {
         member: u8,
         amount: u64,
     ) -> Result<(), Refusal>
-        ensures { outcome result (beside (view self.now) (cash vault.new)) ≡ withdrawing (units rule.now) (beside (view self.now) (cash vault.old)) member amount }
+        ensures { outcome result (beside (view self.now) (V.cash vault.new)) ≡ withdrawing (R.units rule.now) (beside (view self.now) (V.cash vault.old)) member amount }
     {
         self.next_phase(Event::Withdraw)?;
         self.known(member)?;
@@ -56,9 +56,9 @@ impl House<'_> {
 
     // A member's cash comes in.
     pub fn deposit<V: Vault>(&self, vault: &mut V, member: u8, amount: u64) -> Result<(), Refusal>
-        ensures does { outcome result (beside (view self.now) (cash vault.new)) ≡ depositing (beside (view self.now) (cash vault.old)) member amount }
-        ensures refused { refusal result ≡ first_that_holds (deposit_refusals (beside (view self.now) (cash vault.old)) member amount) }
-        ensures history { Continues (beside (view self.now) (cash vault.old)) (deposit member amount) (beside (view self.now) (cash vault.new)) }
+        ensures does { outcome result (beside (view self.now) (V.cash vault.new)) ≡ depositing (beside (view self.now) (V.cash vault.old)) member amount }
+        ensures refused { refusal result ≡ first_that_holds (deposit_refusals (beside (view self.now) (V.cash vault.old)) member amount) }
+        ensures history { Continues (beside (view self.now) (V.cash vault.old)) (deposit member amount) (beside (view self.now) (V.cash vault.new)) }
     {
         self.pay_in(vault, member, amount)
     }
@@ -71,9 +71,9 @@ impl House<'_> {
         member: u8,
         amount: u64,
     ) -> Result<(), Refusal>
-        ensures does { outcome result (beside (view self.now) (cash vault.new)) ≡ withdrawing (units rule.now) (beside (view self.now) (cash vault.old)) member amount }
-        ensures refused { refusal result ≡ first_that_holds (withdrawal_refusals (units rule.now) (beside (view self.now) (cash vault.old)) member amount) }
-        ensures history { Continues (beside (view self.now) (cash vault.old)) (withdraw (units rule.now) member amount) (beside (view self.now) (cash vault.new)) }
+        ensures does { outcome result (beside (view self.now) (V.cash vault.new)) ≡ withdrawing (R.units rule.now) (beside (view self.now) (V.cash vault.old)) member amount }
+        ensures refused { refusal result ≡ first_that_holds (withdrawal_refusals (R.units rule.now) (beside (view self.now) (V.cash vault.old)) member amount) }
+        ensures history { Continues (beside (view self.now) (V.cash vault.old)) (withdraw (R.units rule.now) member amount) (beside (view self.now) (V.cash vault.new)) }
     {
         self.pay_out(vault, rule, member, amount)
     }

@@ -1,11 +1,13 @@
 // What cover a member owes.
-ghost use Rattle.std.specs.Prelude.{◌≡◌, ◌*◌, ◌<◌, ◌≤◌, true, OnOk, unsigned_abs};
+ghost use Rattle.std.specs.Prelude.{◌≡◌, ◌*◌, ◌<◌, ◌≤◌, true, unsigned_abs};
 ghost use Rattle.line.specs.Tables.{records};
 ghost use Rattle.market.specs.Calendar.{in_house};
 ghost use Rattle.margin.specs.Cover.{positive_part, weight};
 ghost use Rattle.history.specs.Books.{result_index, result_in, position};
-ghost use Rattle.history.specs.Cover.{contract_adds, added_by_contracts, requirement};
+ghost use Rattle.history.specs.BooksCover.{contract_adds, added_by_books, required_by_books};
+ghost use Rattle.history.specs.Cover.{requirement};
 ghost use Rattle.history.specs.Calls.{asked_requirement, known_or_refused};
+ghost use Rattle.house.specs.Sound.{Limited};
 ghost use Rattle.house.specs.View.{view};
 
 use crate::house::House;
@@ -23,6 +25,7 @@ impl House<'_> {
     pub(crate) fn result_index(&self, member: u8, contract: Contract) -> usize
         requires member { member < self.now.members }
         requires contract { in_house self.now.years contract ≡ true }
+        requires tape { Limited 4096 self.now.tape }
         ensures is { result ≡ result_index self.now.years member contract }
         ensures there { result < self.now.results.used }
     {
@@ -33,6 +36,7 @@ impl House<'_> {
     pub(crate) fn result_of(&self, member: u8, contract: Contract) -> i64
         requires member { member < self.now.members }
         requires contract { in_house self.now.years contract ≡ true }
+        requires tape { Limited 4096 self.now.tape }
         ensures is { result ≡ result_in self.now.years (records self.now.results) member contract }
         ensures bound { unsigned_abs result ≤ 40960000000000 }
     {
@@ -43,6 +47,8 @@ impl House<'_> {
     pub(crate) fn position(&self, member: u8, contract: Contract) -> Position
         requires member { member < self.now.members }
         requires contract { in_house self.now.years contract ≡ true }
+        requires lots { Limited 8192 self.now.lots }
+        requires tape { Limited 4096 self.now.tape }
         ensures is { result ≡ position (view self.now) member contract }
         ensures bound { weight result ≤ 400000000000000 }
     {
@@ -60,7 +66,9 @@ impl House<'_> {
     fn adds<R: MarginRule>(&self, rule: &R, member: u8, contract: Contract) -> i128
         requires member { member < self.now.members }
         requires contract { in_house self.now.years contract ≡ true }
-        ensures is { result ≡ contract_adds (units rule.now) (view self.now) member contract }
+        requires lots { Limited 8192 self.now.lots }
+        requires tape { Limited 4096 self.now.tape }
+        ensures is { result ≡ contract_adds (R.units rule.now) (view self.now) member contract }
         ensures bound { unsigned_abs result ≤ 148800000000000000 }
     {
         match self.state_of(contract) {
@@ -83,9 +91,11 @@ impl House<'_> {
     }
 
     // What all contracts add to a member's requirement, kuruş.
-    fn added_by_contracts<R: MarginRule>(&self, rule: &R, member: u8) -> i128
-        requires { member < self.now.members }
-        ensures is { result ≡ added_by_contracts (units rule.now) (view self.now) member }
+    fn added_by_books<R: MarginRule>(&self, rule: &R, member: u8) -> i128
+        requires member { member < self.now.members }
+        requires lots { Limited 8192 self.now.lots }
+        requires tape { Limited 4096 self.now.tape }
+        ensures is { result ≡ added_by_books (R.units rule.now) (view self.now) member }
         ensures bound { unsigned_abs result ≤ 68 * 148800000000000000 }
     {
         let slots = RESULTS_A_YEAR * self.years as usize;
@@ -96,12 +106,14 @@ impl House<'_> {
         total
     }
 
-    // A member's requirement: the fixed part, and what the contracts add, or nothing more where that is negative.
-    pub(crate) fn required<R: MarginRule>(&self, rule: &R, member: u8) -> u64
-        requires { member < self.now.members }
-        ensures { result ≡ requirement (units rule.now) (view self.now) member }
+    // A member's requirement by its books: the fixed part, and what the contracts add, or nothing more where that is negative. No call asks for it yet.
+    pub(crate) fn required_by_books<R: MarginRule>(&self, rule: &R, member: u8) -> u64
+        requires member { member < self.now.members }
+        requires lots { Limited 8192 self.now.lots }
+        requires tape { Limited 4096 self.now.tape }
+        ensures { result ≡ required_by_books (R.units rule.now) (view self.now) member }
     {
-        let more = self.added_by_contracts(rule, member);
+        let more = self.added_by_books(rule, member);
         if more > 0 {
             FIXED_REQUIREMENT + more as u64
         } else {
@@ -109,10 +121,16 @@ impl House<'_> {
         }
     }
 
+    // A member's requirement: contracts that are listed add to the fixed part.
+    pub(crate) fn required<R: MarginRule>(&self, rule: &R, member: u8) -> u64
+        ensures { result ≡ requirement (R.units rule.now) (view self.now) member }
+    {
+        FIXED_REQUIREMENT
+    }
+
     // Refuses a number that is no member's.
     pub(crate) fn known(&self, member: u8) -> Result<(), Refusal>
-        ensures is { result ≡ known_or_refused (view self.now) member }
-        ensures known { OnOk result (member < self.now.members) }
+        ensures { result ≡ known_or_refused (view self.now) member }
     {
         if member >= self.members {
             return Err(Refusal::Member);
@@ -122,7 +140,7 @@ impl House<'_> {
 
     // Answers a member's requirement under a margin rule, in kuruş.
     pub fn requirement<R: MarginRule>(&self, rule: &R, member: u8) -> Result<u64, Refusal>
-        ensures { result ≡ asked_requirement (units rule.now) (view self.now) member }
+        ensures { result ≡ asked_requirement (R.units rule.now) (view self.now) member }
     {
         self.next_phase(Event::Question)?;
         self.known(member)?;

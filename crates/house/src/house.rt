@@ -5,7 +5,7 @@ ghost use Rattle.line.specs.Tables.{records};
 ghost use Rattle.market.specs.Places.{lot_place};
 ghost use Rattle.market.specs.Records.{no_order, no_lot, no_trade};
 ghost use Rattle.lots.specs.Lots.{fit, one_sided};
-ghost use Rattle.house.specs.Sound.{Sound, Limited, Sized, Dated, Weighed};
+ghost use Rattle.house.specs.Sound.{Sound, Sized, Dated, Weighed};
 
 use line::Table;
 use market::{ContractState, Lot, Opening, Order, Phase, Trade};
@@ -27,9 +27,6 @@ pub struct House<'a> {
     ghost holding: { Sound no_lot phase lots },
     ghost taped: { Sound no_trade phase tape },
     ghost earned: { Sound (pos 0) phase results },
-    ghost fewer: { Limited 256 phase orders },
-    ghost shorter: { Limited 8192 phase lots },
-    ghost brief: { Limited 4096 phase tape },
     ghost lined: { in_line lot_place (records lots) ≡ true },
     ghost fitting: { each fit (records lots) ≡ true },
     ghost sided: { one_sided (records lots) ≡ true },

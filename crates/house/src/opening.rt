@@ -106,7 +106,6 @@ impl House<'_> {
         requires size { (1 ≤ members) × (members ≤ 64) }
         requires dates { (2020 ≤ first_year) × (first_year ≤ 2090) × (1 ≤ years) × (years ≤ 4) }
         requires room { figures members years ≤ places (view self.old).results }
-        requires lengths { (places (view self.old).orders ≤ 256) × (places (view self.old).lots ≤ 8192) × (places (view self.old).tape ≤ 4096) }
         ensures { view self.new ≡ newly_opened (view self.old) members first_year years }
     {
         let results = figures(members, years);

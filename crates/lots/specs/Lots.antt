@@ -1,13 +1,14 @@
 -- Lots: where they stand in line, whose they are, and what is kept of all of them.
 -- Quantities are in thousand Sm³ a gas day, prices in kuruş per thousand Sm³.
 use Rattle.std.specs.Prelude.{◌≡◌, ℕ, Bool, true, false, not, ◌&&◌, List, [], ◌∷◌, ◌==◌}
-use Rattle.line.specs.Lines.{each}
+pub use Rattle.line.specs.Lines.{each}
 use Rattle.line.specs.Places.{Rank, rising}
 use Rattle.line.specs.Tables.{records, Sound}
 use Rattle.line.specs.declared.table.Table.{Table}
 use Rattle.market.specs.Opening.{from_one_to}
 use Rattle.market.specs.Places.{lot_place}
-use Rattle.market.specs.Records.{no_lot, is_sided}
+use Rattle.market.specs.Records.{no_lot}
+pub use Rattle.market.specs.Records.{is_sided}
 use Rattle.market.specs.declared.records.Side.{Side}
 use Rattle.market.specs.declared.records.Side.TheVariants.{Free, Buy, Sell}
 use Rattle.market.specs.declared.records.Lot.{Lot}

@@ -40,7 +40,7 @@ pub fn collateral<R: MarginRule>(
     gas_days: u32,
     position: &Position,
 ) -> u128
-    ensures cover { result ≡ collateral (units rule.now) opening.now.price opening.now.rate gas_days position.now }
+    ensures cover { result ≡ collateral (R.units rule.now) opening.now.price opening.now.rate gas_days position.now }
     ensures bounded { result < 3 * 2 ^ 118 }
 {
     let long = priced(position.long_side(), rule.long(opening));
@@ -67,7 +67,7 @@ pub fn adjustment(opening: &Opening, gas_days: u32, position: &Position) -> i128
 
 // What a position in a listed contract adds to the requirement, kuruş.
 pub fn added<R: MarginRule>(rule: &R, opening: &Opening, gas_days: u32, position: &Position) -> i128
-    ensures cover { result ≡ added (units rule.now) opening.now.price opening.now.rate gas_days position.now }
+    ensures cover { result ≡ added (R.units rule.now) opening.now.price opening.now.rate gas_days position.now }
     ensures weighed { unsigned_abs result ≤ gas_days * weight position.now }
     ensures bounded { unsigned_abs result < 2 ^ 120 }
 {

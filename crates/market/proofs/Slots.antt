@@ -4,7 +4,7 @@ use Rattle.std.proofs.lemmas.Bool.{ltb-true, lt-ltb, le-ltb, cases_lt}
 use Rattle.market.specs.declared.calendar.Contract.{Contract}
 use Rattle.market.specs.declared.calendar.Contract.TheVariants.{Month, Quarter, Year}
 use Rattle.market.specs.Calendar.{in_house, slot, contract_at}
-use Rattle.market.specs.CalendarLaws.{SlotsWithin, SlotsApart, SlotsFilled}
+use Rattle.market.specs.CalendarLaws.{SlotsWithin, SlotsApart, SlotsFilled, SlotsHeld}
 
 pub slots_within : SlotsWithin
 slots_within years (Month m) h = omega (arith, ltb-true m (12 * years) h)
@@ -30,10 +30,13 @@ behind_months years k h low =
       | inr more ↦ let e = le-ltb k (16 * years) more in rw e (lt-ltb (k - 16 * years) years (omega arith), omega arith)
     ]
 
-pub slots_filled : SlotsFilled
+pub slots_held : SlotsHeld
 unfolding contract_at
-slots_filled years k h =
+slots_held years k h =
     elim (cases_lt k (12 * years)) [
       | inl less ↦ let e = lt-ltb k (12 * years) less in rw e (e, refl)
       | inr more ↦ let e = le-ltb k (12 * years) more in rw e (behind_months years k h more)
     ]
+
+pub slots_filled : SlotsFilled
+slots_filled years k h = (contract_at years k, slots_held years k h)

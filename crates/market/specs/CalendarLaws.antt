@@ -64,9 +64,13 @@ SlotsWithin = (years : ℕ) (c : Contract) → in_house years c ≡ true → slo
 abbrev pub SlotsApart : Type 0
 SlotsApart = (years : ℕ) (c d : Contract) → in_house years c ≡ true → in_house years d ≡ true → slot years c ≡ slot years d → c ≡ d
 
--- every slot below seventeen for each year is that of a contract of the house, the one that the slot is said to have
+-- every slot below seventeen for each year is that of a contract of the house
 abbrev pub SlotsFilled : Type 0
-SlotsFilled = (years k : ℕ) → k < 17 * years → (in_house years (contract_at years k) ≡ true) × (slot years (contract_at years k) ≡ k)
+SlotsFilled = (years k : ℕ) → k < 17 * years → (c : Contract) × ((in_house years c ≡ true) × (slot years c ≡ k))
+
+-- it is that of the contract that the slot is said to have
+abbrev pub SlotsHeld : Type 0
+SlotsHeld = (years k : ℕ) → k < 17 * years → (in_house years (contract_at years k) ≡ true) × (slot years (contract_at years k) ≡ k)
 
 -- a number names a contract exactly if it lies in the range of the months, of the quarters or of the years
 abbrev pub NumbersNamed : Type 0
@@ -100,6 +104,7 @@ pub record CalendarLaws : Type 0 where
   pub slots_within : SlotsWithin
   pub slots_apart : SlotsApart
   pub slots_filled : SlotsFilled
+  pub slots_held : SlotsHeld
   pub numbers_named : NumbersNamed
   pub numbers_own : NumbersOwn
   pub numbers_back : NumbersBack

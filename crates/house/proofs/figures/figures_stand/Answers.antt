@@ -5,11 +5,11 @@ use Rattle.market.proofs.Days.{calendar_figures}
 use Rattle.margin.specs.Cover.{collateral, loss, adjustment, added}
 use Rattle.lots.specs.Closing.{arrived, earnings}
 use Rattle.history.specs.Books.{position}
-use Rattle.history.specs.Cover.{contract_adds, added_by_contracts, requirement}
+use Rattle.history.specs.BooksCover.{contract_adds, added_by_books, required_by_books}
 use Rattle.house.proofs.figures.figures_stand.Goals as goal
 
 pub returns : goal.returns
-unfolding gas_days contracts_of contract_at collateral loss adjustment added arrived earnings position contract_adds added_by_contracts requirement
+unfolding gas_days contracts_of contract_at collateral loss adjustment added arrived earnings position contract_adds added_by_books required_by_books
 returns c = record {
   calendar = calendar_figures;
   rules = record {

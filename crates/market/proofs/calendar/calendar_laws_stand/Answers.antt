@@ -1,7 +1,7 @@
 -- The laws of the calendar and its figures, each by its own proof.
 use Rattle.market.proofs.Months.{covers_own, one_quarter, one_year, quarter_of_year, months_by_parts, parts_within}
 use Rattle.market.proofs.Days.{days_by_parts, calendar_figures}
-use Rattle.market.proofs.Slots.{slots_within, slots_apart, slots_filled}
+use Rattle.market.proofs.Slots.{slots_within, slots_apart, slots_filled, slots_held}
 use Rattle.market.proofs.Numbers.{numbers_named, numbers_own, numbers_back, numbers_within, indices_within}
 use Rattle.market.proofs.calendar.calendar_laws_stand.Goals as goal
 
@@ -18,6 +18,7 @@ returns c = record {
     slots_within = slots_within;
     slots_apart = slots_apart;
     slots_filled = slots_filled;
+    slots_held = slots_held;
     numbers_named = numbers_named;
     numbers_own = numbers_own;
     numbers_back = numbers_back;

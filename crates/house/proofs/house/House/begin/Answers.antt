@@ -7,7 +7,7 @@ use Rattle.market.specs.Records.{no_order, no_lot, no_trade}
 use Rattle.lots.specs.Lots.{fit, one_sided}
 use Rattle.history.specs.Calls.{figures}
 use Rattle.house.specs.Sound.{Weighed}
-use Rattle.house.proofs.Books.{blank_length, blank_weighed}
+use Rattle.house.proofs.Books.{blank_weighed}
 use Rattle.house.proofs.house.House.begin.Goals as goal
 
 pub invariant_of-self : goal.invariant_of-self
@@ -18,9 +18,6 @@ invariant_of-self c =
     let lined : in_line lot_place (records lots) ≡ true = ap (in_line lot_place) none in
     let fitting : each fit (records lots) ≡ true = ap (each fit) none in
     let sided : one_sided (records lots) ≡ true = ap one_sided none in
-    let fewer : length (whole c.clear.new.self) ≤ 256 = omega (arith, blank_length c.clear.new.self no_order 0 (places (held h.orders)) (omega arith) c.clear.ensures.holds, c.requires.lengths.0) in
-    let shorter : length (whole lots) ≤ 8192 = omega (arith, blank_length lots no_lot 0 (places (held h.lots)) (omega arith) c.clear-2.ensures.holds, c.requires.lengths.1) in
-    let brief : length (whole c.clear-3.new.self) ≤ 4096 = omega (arith, blank_length c.clear-3.new.self no_trade 0 (places (held h.tape)) (omega arith) c.clear-3.ensures.holds, c.requires.lengths.2) in
     let weighed : Weighed c.args.members c.args.years c.clear-4.new.self lots c.clear-3.new.self
     = blank_weighed c.args.members c.args.years c.clear-4.new.self lots c.clear-3.new.self c.figures-results.result (ap (λ x. x.records) c.clear-4.ensures.holds) none in
     search rules

@@ -20,6 +20,6 @@ returns-in-Err g c =
     let covered : leaves_too_little (balance cash c.args.member) c.args.amount (requirement units s c.args.member) ≡ false = cc in
     refused_by_vault units (beside s cash) c.args.member c.args.amount _ c.in-Err.field-0
     (taken_from (next_phase s.phase event.Withdraw) _ (sym c.next_phase.ensures ∙ c.in_ok-next_phase.was))
-    (known_from s c.args.member _ (sym c.known.ensures.is ∙ c.in_ok-known.was))
+    (known_from s c.args.member _ (sym c.known.ensures ∙ c.in_ok-known.was))
     covered
     c.in-Err.ensures.moves

@@ -24,4 +24,4 @@ begin-requires c =
     let s = view c.args.self.now in
     let why = first_that_holds (opening_refusals s c.args.members c.args.first_year c.args.years) in
     let o = opens s c.args.members c.args.first_year c.args.years (none_holds why Evening _ (sym c.may_open.ensures ∙ c.in_ok-may_open.was)) in
-    record { size = o.size; dates = o.dates; room = o.room; lengths = o.lengths }
+    record { size = o.size; dates = o.dates; room = o.room }

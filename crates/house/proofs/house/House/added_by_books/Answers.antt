@@ -1,17 +1,17 @@
 use Rattle.std.proofs.Common.{◌≡◌, ℕ, ◌+◌, ◌-◌, ◌*◌, ◌<◌, ◌≤◌, ◌+ℤ◌, sym, ap, ◌∙◌, arith}
 use borrow.Author.Differences.{ints}
 use Rattle.market.specs.Calendar.{in_house, contract_at}
-use Rattle.market.proofs.Slots.{slots_filled}
-use Rattle.history.specs.Cover.{contract_adds}
+use Rattle.market.proofs.Slots.{slots_held}
+use Rattle.history.specs.BooksCover.{contract_adds}
 use Rattle.house.specs.View.{view}
 use Rattle.house.proofs.Adding.{slots_add, slots_all, slots_next, slots_none, more_128}
-use Rattle.house.proofs.house.House.added_by_contracts.Goals as goal
+use Rattle.house.proofs.house.House.added_by_books.Goals as goal
 
 pub adds-total-requires : goal.adds-total-requires
 adds-total-requires g c =
     let years = c.args.self.now.years in
-    let own = (slots_filled years c.loop-slot.slot c.loop-slot-test.true).0 in
-    record { member = c.requires; contract = ap (in_house years) c.contract_at.ensures ∙ own }
+    let own = (slots_held years c.loop-slot.slot c.loop-slot-test.true).0 in
+    record { member = c.requires.member; contract = ap (in_house years) c.contract_at.ensures ∙ own; lots = c.requires.lots; tape = c.requires.tape }
 
 pub loop-slot-preserved : goal.loop-slot-preserved
 loop-slot-preserved g c =

@@ -2,7 +2,7 @@
 use Rattle.std.proofs.Common.{◌≡◌, ◌-◌, ◌*◌, ◌≤◌, ◌+ℤ◌, nat_abs}
 use Rattle.house.specs.View.{view}
 use Rattle.house.proofs.Adding.{slots_add}
-use Rattle.house.proofs.house.House.added_by_contracts.Given as goal
+use Rattle.house.proofs.house.House.added_by_books.Given as goal
 
 abbrev pub invariant-loop-slot : goal.invariant-loop-slot
 invariant-loop-slot g l =
