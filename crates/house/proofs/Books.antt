@@ -12,7 +12,10 @@ use Rattle.market.specs.declared.records.Lot.{Lot}
 use Rattle.market.specs.declared.records.Trade.{Trade}
 use Rattle.history.specs.Books.{result_index, result_in, weight_in, month_weight}
 use Rattle.history.specs.Calls.{figures}
-use Rattle.house.specs.Sound.{Weighed}
+use Rattle.market.specs.Phases.{is_open}
+use Rattle.market.specs.declared.phase.Phase.{Phase}
+use Rattle.market.specs.declared.phase.Phase.TheVariants.{Unopened, Evening, Morning, Session, PostSession}
+use Rattle.house.specs.Sound.{Memberless, Weighed}
 
 -- a blank table has as many places as it is said to have
 pub blank_length : {X : Type 0} (t : Table X) (b : X) (used n : ℕ) → used ≤ n → held t ≡ all_blank b used n → length (whole t) ≡ n
@@ -63,3 +66,11 @@ index_within members years member c h s = row members member (17 * years) (slot 
         let e : n ≡ m + 1 + (n - (m + 1)) = omega arith in
         let p : (m + 1 + (n - (m + 1))) * w ≡ m * w + w + (n - (m + 1)) * w = omega arith in
         subst (λ (x : ℕ). m * w + k < x * w) (sym e) (omega (arith, p))
+
+-- a house with a member is open
+pub opened_by : (p : Phase) (members member : ℕ) → Memberless p members → member < members → is_open p ≡ true
+opened_by Unopened members member s h = absurd (omega (arith, s refl))
+opened_by Evening members member s h = refl
+opened_by Morning members member s h = refl
+opened_by Session members member s h = refl
+opened_by PostSession members member s h = refl

@@ -20,6 +20,10 @@ Limited most t = length (whole t) ≤ most
 abbrev pub Sized : Phase → ℕ → Type 0
 Sized p members = is_open p ≡ true → (1 ≤ members) × (members ≤ 64)
 
+-- a house that is not open has no members
+abbrev pub Memberless : Phase → ℕ → Type 0
+Memberless p members = is_open p ≡ false → members ≡ 0
+
 -- an open house has 1 to 4 years, from 2020 to 2090 on
 abbrev pub Dated : Phase → ℕ → ℕ → Type 0
 Dated p first_year years = is_open p ≡ true → (2020 ≤ first_year) × (first_year ≤ 2090) × (1 ≤ years) × (years ≤ 4)

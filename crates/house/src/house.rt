@@ -5,7 +5,7 @@ ghost use Rattle.line.specs.Tables.{records};
 ghost use Rattle.market.specs.Places.{lot_place};
 ghost use Rattle.market.specs.Records.{no_order, no_lot, no_trade};
 ghost use Rattle.lots.specs.Lots.{fit, one_sided};
-ghost use Rattle.house.specs.Sound.{Sound, Sized, Dated, Weighed};
+ghost use Rattle.house.specs.Sound.{Sound, Sized, Memberless, Dated, Weighed};
 
 use line::Table;
 use market::{ContractState, Lot, Opening, Order, Phase, Trade};
@@ -33,6 +33,7 @@ pub struct House<'a> {
     ghost counted: { results.used ≡ members * (17 * years) },
     ghost weighed: { Weighed members years results lots tape },
     ghost sized: { Sized phase members },
+    ghost vacant: { Memberless phase members },
     ghost dated: { Dated phase first_year years },
     ghost few: { years ≤ 4 },
     ghost stated: { length states ≡ 68 },

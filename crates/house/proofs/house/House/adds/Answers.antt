@@ -13,7 +13,7 @@ returns-in-Trading g c =
     let h = c.args.self.now in
     let units = g.R.MarginRule.units c.args.rule.now in
     let p = c.position-position in
-    let back = to_z-of_z w128 c.added.result (record { sfits = c.added.type-inv }) in
+    let back = to_z-of_z w128 c.added.result (record { sfits = c.added.type_inv }) in
     let most = days_bound h.first_year c.gas_days.result (weight p.result) c.args.contract c.gas_days.ensures p.ensures.bound in
     let small : nat_abs c.added.result ≤ 148800000000000000 = omega (arith, c.added.ensures.weighed, most) in
     record {

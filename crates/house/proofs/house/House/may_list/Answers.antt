@@ -12,7 +12,7 @@ use Rattle.house.proofs.house.House.may_list.Goals as goal
 pub returns-in_err-contract : goal.returns-in_err-contract
 returns-in_err-contract c =
     let s = view c.args.self.now in
-    let p = err_from_is_err_and c.from-residual.result c.from-residual.ensures.1 in
+    let p = err_from_is_err_and c.from_residual.result c.from_residual.ensures.1 in
     rw (p.1, p.2) (first_append (contract_refusals s event.List c.args.number)
     ((no.BasePrice, wrong_base c.args.price c.args.rate) ∷ (no.PastInside, of_contract (contract_of c.args.number s.years) (past_inside s)) ∷ [])
     c.in_err-contract.field-0.0 c.in_err-contract.ensures)

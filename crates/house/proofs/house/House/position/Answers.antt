@@ -7,6 +7,7 @@ use Rattle.margin.specs.declared.position.Position.{Position}
 use Rattle.history.specs.Books.{position}
 use Rattle.house.specs.View.{view}
 use Rattle.house.proofs.Adding.{in_64, same_position, weighs}
+use Rattle.house.proofs.Books.{opened_by}
 use Rattle.house.proofs.house.House.position.Goals as goal
 
 pub returns : goal.returns
@@ -27,3 +28,9 @@ returns c =
       is = same ∙ is;
       bound = subst (λ (q : Position). weight q ≤ 400000000000000) (sym same) (weighs held.result.net c.result_of.result held.result.value held.ensures.small held.ensures.bound c.result_of.ensures.bound);
     }
+
+pub position_of-held-requires-clause-kept : goal.position_of-held-requires-clause-kept
+position_of-held-requires-clause-kept c =
+    let h = c.args.self.now in
+    let opened = opened_by h.phase h.members c.args.member h.vacant c.requires.member in
+    record { sound = (h.holding.0, h.lined, h.holding.2 opened); fitting = h.fitting; sided = h.sided }

@@ -11,12 +11,12 @@ pub returns-then-more-gt0 : goal.returns-then-more-gt0
 unfolding required_by_books
 returns-then-more-gt0 g c =
     let more = c.added_by_books-more in
-    let back = to_z-of_z w128 more.result (record { sfits = more.type-inv }) in
+    let back = to_z-of_z w128 more.result (record { sfits = more.type_inv }) in
     ap (λ (n : ℕ). 15000000 + n) (above_zero (to_z w128 (of_z w128 more.result)) c.if-more-gt0.true ∙ ap positive_part (back ∙ more.ensures.is))
 
 pub returns-else-more-gt0 : goal.returns-else-more-gt0
 unfolding required_by_books
 returns-else-more-gt0 g c =
     let more = c.added_by_books-more in
-    let back = to_z-of_z w128 more.result (record { sfits = more.type-inv }) in
+    let back = to_z-of_z w128 more.result (record { sfits = more.type_inv }) in
     ap (λ (n : ℕ). 15000000 + n) (sym (not_above_zero (to_z w128 (of_z w128 more.result)) c.if-more-gt0.false) ∙ ap positive_part (back ∙ more.ensures.is))

@@ -9,7 +9,7 @@ use Rattle.house.proofs.house.House.result_of.Goals as goal
 pub returns : goal.returns
 returns c =
     let h = c.args.self.now in
-    let back = to_z-of_z w64 c.at.result (record { sfits = c.at.type-inv }) in
+    let back = to_z-of_z w64 c.at.result (record { sfits = c.at.type_inv }) in
     let is : c.at.result ≡ result_in h.years (records h.results) c.args.member c.args.contract
     = c.at.ensures ∙ ap (λ (k : ℕ). get_or (records h.results) k (pos 0)) c.result_index.ensures.is in
     let brief : length (whole h.tape) ≤ 4096 = c.requires.tape in

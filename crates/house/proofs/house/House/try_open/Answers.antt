@@ -12,7 +12,7 @@ use Rattle.house.proofs.house.House.try_open.Goals as goal
 pub returns-in_err-may_open : goal.returns-in_err-may_open
 returns-in_err-may_open c =
     let s = view c.args.self.now in
-    let p = err_from_is_err_and c.from-residual.result c.from-residual.ensures.1 in
+    let p = err_from_is_err_and c.from_residual.result c.from_residual.ensures.1 in
     let p1 = p.1 in
     let p2 = p.2 in
     let q = refused_so (first_that_holds (opening_refusals s c.args.members c.args.first_year c.args.years)) Evening c.in_err-may_open.field-0.0
