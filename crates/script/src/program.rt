@@ -4,6 +4,7 @@ ghost use Rattle.script.specs.Counts.{Answered};
 
 use crate::running::run;
 use crate::summary::Summary;
+use anyhow::anyhow;
 use std::env;
 use std::io::{Read, Write};
 use std::time::{Duration, Instant};
@@ -25,10 +26,9 @@ fn read_arguments(rt: &HostRuntime) -> anyhow::Result<Options> {
             "--quiet" => options.quiet = true,
             "--time" => options.time = true,
             other => {
-                let told = format!(in rt.alloc();
+                return Err(anyhow!(
                     "unknown argument {other}: the arguments are --quiet and --time"
-                )?;
-                return Err(told.into());
+                ));
             }
         }
     }

@@ -10,7 +10,7 @@ counted-summary-requires g c =
     let rest = c.loop-rest.rest.now in
     let some : 0 < length rest = omega (arith, false-eqb (length rest) 0 c.loop-rest-test.ensures) in
     let split = lines_split rest c.first_line.result.0.now c.first_line.result.1.now some c.first_line.ensures.front c.first_line.ensures.back in
-    record { answered = c.loop-rest.invariant.answered; room = omega (arith, c.loop-rest.invariant.few, ap length split, lines_few c.args.script.now, c.well-formed) }
+    record { answered = c.loop-rest.invariant.answered; room = omega (arith, c.loop-rest.invariant.few, ap length split, lines_few c.args.script.now, c.well_formed) }
 
 pub loop-rest-init : goal.loop-rest-init
 loop-rest-init g c = none_counted_yet (lines c.args.script.now) c.new-summary.result c.new-summary.ensures
