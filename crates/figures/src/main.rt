@@ -1,4 +1,6 @@
 // Compares worked figures with what the running code answers, one line for each.
+#![tactic(auto)]
+
 use anyhow::anyhow;
 use margin::{GasRule, HubRule, MarginRule};
 use market::{Contract, Opening};

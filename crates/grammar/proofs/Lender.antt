@@ -1,5 +1,5 @@
 -- Which line of a script lends.
-use Rattle.std.proofs.Common.{◌≡◌, ℕ, true, false, List, [], ◌∷◌, length, sym, refl, ◌∙◌, arith}
+use Rattle.std.proofs.Common.{◌≡◌, ℕ, true, false, List, [], ◌∷◌, length, refl, arith}
 use Rattle.grammar.specs.Forms.{meaning}
 use Rattle.grammar.specs.Kinds.{is_copied, default_lending, lending_asked, lent}
 use Rattle.grammar.specs.Words.{lines}

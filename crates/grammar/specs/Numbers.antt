@@ -1,5 +1,5 @@
 -- Numbers as a script writes them.
-use Rattle.std.specs.Prelude.{ℕ, ◌+◌, ◌-◌, ◌*◌, min, Bool, true, false, cond, ◌&&◌, List, [], ◌∷◌, Some, None, Option, nat_le}
+use Rattle.std.specs.Prelude.{ℕ, ◌+◌, ◌-◌, ◌*◌, min, Bool, true, cond, ◌&&◌, List, [], ◌∷◌, Some, None, Option, nat_le}
 
 -- a byte that writes a digit: 48 writes 0, and 57 writes 9
 abbrev pub is_digit : ℕ → Bool

@@ -1,4 +1,6 @@
 // What the lines of a script say: their words and numbers, and what each line asks for.
+#![tactic(auto)]
+
 pub mod commands;
 pub mod forms;
 mod lines;

@@ -1,5 +1,5 @@
 -- The laws, call by call: each call keeps them, and so does every history.
-use Rattle.std.proofs.Common.{◌≡◌, ℕ, ◌+◌, ◌-◌, ◌<◌, ◌≤◌, Bool, true, false, cond, ◌≢◌, List, [], ◌∷◌, is_ok, Some, None, Option, sym, refl, ap, ◌∙◌, subst, ⊎_elim, arith}
+use Rattle.std.proofs.Common.{◌≡◌, ℕ, ◌+◌, ◌-◌, ◌<◌, ◌≤◌, Bool, true, cond, ◌≢◌, List, [], ◌∷◌, is_ok, Some, None, Option, sym, refl, ap, ◌∙◌, subst, ⊎_elim, arith}
 use Rattle.std.proofs.lemmas.Bool.{cases_eq}
 use Rattle.std.proofs.lemmas.Bool.Decides.{nat_tests}
 use Rattle.market.specs.declared.phase.Phase.{Phase}
@@ -13,7 +13,7 @@ use Rattle.market.specs.declared.state.ContractState.{ContractState}
 use Rattle.market.specs.declared.state.ContractState.TheVariants.{Trading, Halted}
 use Rattle.history.specs.State.{State, Price, Now, beside}
 use Rattle.history.specs.Standing.{price_of, with_contract, with_state, by_contract}
-use Rattle.history.specs.Calls.{Outcome, unless_refused, with_phase, step_refusals, deposit_refusals, withdrawal_refusals}
+use Rattle.history.specs.Calls.{unless_refused, with_phase, step_refusals, deposit_refusals, withdrawal_refusals}
 use Rattle.history.specs.History.{Call, step, deposit, withdraw, list, halt, resume, History, opened, ◌then◌, act, led_to, Fresh, Leads, accepted, if_account, deposits, withdrawals}
 use Rattle.history.specs.Laws.{Laws, Stands}
 use Rattle.history.proofs.Cash.{credit_taken, debit_taken, moved_here, moved_elsewhere, moved_whole, counts, counts_not}

@@ -1,14 +1,14 @@
 -- An accepted opening begins a history.
-use Rattle.std.proofs.Common.{◌≡◌, ℕ, ◌+◌, ◌-◌, ◌≤◌, Bool, true, false, length, replicate, pos, Some, None, Ok, Err, Option, Result, sym, refl, ap, ◌∙◌, subst, arith}
+use Rattle.std.proofs.Common.{◌≡◌, ℕ, ◌-◌, ◌≤◌, pos, Some, None, Ok, Err, Option, Result, sym, refl, ap, subst, arith}
 use Rattle.std.proofs.lemmas.List.{length-replicate}
 use Rattle.std.proofs.lemmas.Bool.Decides.{nat_tests}
-use Rattle.line.specs.Tables.{Held, places, all_blank}
+use Rattle.line.specs.Tables.{places, all_blank}
 use Rattle.market.specs.Records.{no_order, no_lot, no_trade}
 use Rattle.market.specs.declared.refusal.Refusal.{Refusal}
 use Rattle.vault.specs.Checks.{first_that_holds}
 use Rattle.vault.specs.Cash.{Cash, Whole}
-use Rattle.history.specs.State.{State, Now, beside}
-use Rattle.history.specs.Calls.{Outcome, outcome, unless_refused, figures, opening_refusals, newly_opened, opening}
+use Rattle.history.specs.State.{State, beside}
+use Rattle.history.specs.Calls.{outcome, unless_refused, figures, opening_refusals, newly_opened, opening}
 use Rattle.history.specs.History.{Fresh}
 use Rattle.history.specs.Laws.{Begins}
 use Rattle.history.proofs.Facts.{begins}

@@ -1,6 +1,5 @@
 -- What a vault's refusal means to a call of the house.
-use Rattle.std.proofs.Common.{◌≡◌, ℕ, Bool, true, false, cond, not, List, [], ◌∷◌, ◌++◌, is_some, is_ok, Some, None, Ok, Err, Option, Result, sym, refl, ap, ◌∙◌, subst, arith}
-use Rattle.std.proofs.lemmas.Bool.Decides.{nat_tests}
+use Rattle.std.proofs.Common.{◌≡◌, ℕ, Bool, true, false, cond, not, List, [], ◌∷◌, ◌++◌, is_some, Some, None, Ok, Err, Option, Result, sym, refl, ap, ◌∙◌, subst, arith}
 use Rattle.vault.specs.Cash.{Cash, Moved, balance, debited}
 use Rattle.vault.specs.Cash as vault
 use Rattle.vault.specs.declared.faults.Fault.{Fault}
@@ -12,7 +11,7 @@ use Rattle.market.specs.declared.refusal.Refusal.TheVariants as no
 use Rattle.market.specs.declared.phase.Event.TheVariants as event
 use Rattle.history.specs.State.{State, Now, beside}
 use Rattle.history.specs.Cover.{requirement, leaves_too_little}
-use Rattle.history.specs.Calls.{Outcome, outcome, unless_refused, Admits, refusal, answer_unless, not_taken, led_or_refused, no_such_member, known_or_refused, vault_refuses, withdrawing}
+use Rattle.history.specs.Calls.{outcome, unless_refused, Admits, refusal, answer_unless, not_taken, led_or_refused, no_such_member, known_or_refused, vault_refuses, withdrawing}
 
 -- a refused movement left the cash as it was
 kept : (why : Option Fault) (before after c : Cash) (f : Fault) → vault.outcome (Err f) c ≡ vault.unless_refused why before after → c ≡ before

@@ -1,8 +1,8 @@
 -- What each call does: when it is refused, and otherwise what it leaves.
 -- Checks run by rising number, that of the phase first of all; a refused call leaves everything as it was.
-use Rattle.std.specs.Prelude.{◌≡◌, ℕ, ◌*◌, Bool, true, false, cond, not, ◌||◌, List, [], ◌∷◌, ℤ, pos, is_some, is_ok, Some, None, Ok, Err, Option, Result, nat_le, nat_lt}
+use Rattle.std.specs.Prelude.{◌≡◌, ℕ, ◌*◌, Bool, cond, not, ◌||◌, List, [], ◌∷◌, ℤ, pos, is_some, is_ok, Some, None, Ok, Err, Option, Result, nat_le, nat_lt}
 use Rattle.std.specs.Option.{unwrap_or}
-use Rattle.line.specs.Tables.{Held, places, all_blank}
+use Rattle.line.specs.Tables.{places, all_blank}
 use Rattle.market.specs.Phases.{next_phase}
 use Rattle.market.specs.Records.{no_order, no_lot, no_trade}
 use Rattle.market.specs.declared.calendar.Contract.{Contract}
@@ -16,7 +16,7 @@ use Rattle.market.specs.declared.records.Trade.{Trade}
 use Rattle.market.specs.declared.refusal.Refusal.{Refusal}
 use Rattle.market.specs.declared.refusal.Refusal.TheVariants as no
 use Rattle.vault.specs.Checks.{first_that_holds}
-use Rattle.vault.specs.Cash.{Cash, Moved, balance, credited, debited}
+use Rattle.vault.specs.Cash.{Moved, balance, credited, debited}
 use Rattle.margin.specs.Units.{Units}
 use Rattle.history.specs.State.{State, Now, beside}
 use Rattle.history.specs.Standing.{all_unlisted, no_prices}

@@ -1,5 +1,5 @@
 -- Histories: the calls made of one house and one vault since the opening, refused ones among them.
-use Rattle.std.specs.Prelude.{◌≡◌, ℕ, ◌+◌, ◌≤◌, Bool, cond, List, [], ◌∷◌, pos, is_ok, ◌==◌}
+use Rattle.std.specs.Prelude.{◌≡◌, ℕ, ◌+◌, cond, List, [], ◌∷◌, pos, is_ok, ◌==◌}
 use Rattle.line.specs.Tables.{places, all_blank}
 use Rattle.market.specs.Records.{no_order, no_lot, no_trade}
 use Rattle.market.specs.declared.phase.Phase.TheVariants.{Evening}

@@ -9,7 +9,7 @@ use Rattle.market.specs.declared.refusal.Refusal.{Refusal}
 use Rattle.market.specs.declared.refusal.Refusal.TheVariants as no
 use Rattle.market.specs.declared.state.ContractState.TheVariants.{Trading, Halted}
 use Rattle.vault.specs.Checks.{first_that_holds}
-use Rattle.history.specs.State.{State, Price}
+use Rattle.history.specs.State.{State}
 use Rattle.history.specs.Standing.{state_of, price_of, with_contract, with_state, no_such_contract, of_contract, by_contract, past_inside}
 use Rattle.history.specs.Calls.{Outcome, unless_refused, not_taken}
 

@@ -1,5 +1,5 @@
 -- The contracts of a house: their states and price records, and what lies inside a contract.
-use Rattle.std.specs.Prelude.{ℕ, Bool, true, false, not, ◌||◌, List, [], ◌∷◌, ◌++◌, map, replicate, is_some, Some, None, Option, slice_index_or, slice_set}
+use Rattle.std.specs.Prelude.{ℕ, Bool, false, not, ◌||◌, List, [], ◌∷◌, ◌++◌, map, replicate, is_some, Some, None, Option, slice_index_or, slice_set}
 use Rattle.market.specs.Calendar.{contract_of, slot, parts, months_of}
 use Rattle.market.specs.States.{is_past}
 use Rattle.market.specs.declared.calendar.Contract.{Contract}

@@ -1,17 +1,16 @@
 -- What the books of a house weigh: nothing when it opens, and never so much that a result could pass its bound.
-use Rattle.std.proofs.Common.{◌≡◌, ℕ, zero, suc, ◌+◌, ◌-◌, ◌*◌, ◌/◌, ◌<◌, ◌≤◌, Bool, true, false, List, [], length, get_or, replicate, ℤ, pos, nat_abs, sym, refl, ap, ◌∙◌, subst, arith}
+use Rattle.std.proofs.Common.{◌≡◌, ℕ, zero, suc, ◌+◌, ◌-◌, ◌*◌, ◌/◌, ◌<◌, ◌≤◌, true, List, [], length, get_or, replicate, ℤ, pos, nat_abs, sym, refl, ap, ◌∙◌, subst, arith}
 use Rattle.std.proofs.lemmas.List.{length-replicate}
 use Rattle.std.proofs.lemmas.Bool.{ltb-true}
 use Rattle.line.specs.Tables.{held, places, all_blank, records, whole}
 use Rattle.line.specs.declared.table.Table.{Table}
 use Rattle.line.proofs.Counting.{places_are}
-use Rattle.market.specs.Calendar.{in_house, contract_number, quarter_of, year_of, slot}
+use Rattle.market.specs.Calendar.{in_house, quarter_of, year_of, slot}
 use Rattle.market.specs.declared.calendar.Contract.{Contract}
 use Rattle.market.specs.declared.calendar.Contract.TheVariants.{Month, Quarter, Year}
 use Rattle.market.specs.declared.records.Lot.{Lot}
 use Rattle.market.specs.declared.records.Trade.{Trade}
-use Rattle.history.specs.Books.{result_index, result_in, weight_in, month_weight}
-use Rattle.history.specs.Calls.{figures}
+use Rattle.history.specs.Books.{result_index, weight_in, month_weight}
 use Rattle.market.specs.Phases.{is_open}
 use Rattle.market.specs.declared.phase.Phase.{Phase}
 use Rattle.market.specs.declared.phase.Phase.TheVariants.{Unopened, Evening, Morning, Session, PostSession}

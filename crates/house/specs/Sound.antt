@@ -1,5 +1,5 @@
 -- What an open house keeps of its tables and its size. Before the opening only that nothing is in use.
-use Rattle.std.specs.Prelude.{◌≡◌, ℕ, ◌*◌, ◌<◌, ◌≤◌, true, false, List, length, ℤ}
+use Rattle.std.specs.Prelude.{◌≡◌, ℕ, ◌*◌, ◌<◌, ◌≤◌, true, false, length, ℤ}
 use Rattle.line.specs.Tables.{records, whole, Within, Cleared}
 use Rattle.line.specs.declared.table.Table.{Table}
 use Rattle.market.specs.Phases.{is_open}

@@ -1,4 +1,6 @@
 // The clearing house: lending, opening, the phases of the day, contracts and their listing, cash and cover.
+#![tactic(auto)]
+
 mod cash;
 mod contracts;
 mod cover;

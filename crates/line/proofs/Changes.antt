@@ -3,7 +3,7 @@ use Rattle.std.proofs.Common.{◌≡◌, ℕ, ◌+◌, ◌-◌, ◌<◌, ◌≤�
 use Rattle.std.proofs.lemmas.List.{length-append, length-replicate, length-take-le, length-drop, length-set, length_push, take_at, drop_at, drop-drop, drop-replicate, drop-set-lt, take_more_set, take-append-drop, set-append_left, replicate-append-replicate}
 use Rattle.line.specs.Places.{Rank}
 use Rattle.line.specs.Lines.{in_line, spot, entered, taken_out}
-use Rattle.line.specs.Tables.{Within, Cleared, Sound, records, whole}
+use Rattle.line.specs.Tables.{Within, Cleared, Sound, whole}
 use Rattle.line.specs.declared.table.Table.{Table}
 use Rattle.line.proofs.Lines.{InLine, shut, entered_at, length_entered}
 use Rattle.line.proofs.Moving.{put_in, length_taken_out}

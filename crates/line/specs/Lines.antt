@@ -1,6 +1,6 @@
 -- Records in line, and what each change makes of a line, as lists.
 -- place: the place that a record has; spot: where in the line a place belongs, counted from 0.
-use Rattle.std.specs.Prelude.{◌≡◌, ℕ, suc, Bool, true, false, cond, ◌&&◌, List, [], ◌∷◌, ◌++◌, take, drop, ◌≢◌}
+use Rattle.std.specs.Prelude.{ℕ, suc, Bool, true, false, cond, ◌&&◌, List, [], ◌∷◌, ◌++◌, take, drop, ◌≢◌}
 use Rattle.std.specs.List.{AllByRecursion as All}
 use Rattle.line.specs.Places.{Rank, ahead}
 

@@ -1,4 +1,6 @@
 // Tables in memory that a caller lends: records at the front, blank places behind them, and the records in line where they have places.
+#![tactic(auto)]
+
 mod blank;
 mod lined;
 mod moves;

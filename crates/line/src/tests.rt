@@ -50,8 +50,8 @@ impl Keeps<Ticket> for Other {
 
 // Enters the record where there is room and its place is free.
 fn enter<T: Placed>(line: &mut Table<'_, T>, x: T) -> bool
-    requires { Sound place T.Blank.blank line.old }
-    ensures { Sound place T.Blank.blank line.new }
+    requires { Sound T.place T.Blank.blank line.old }
+    ensures { Sound T.place T.Blank.blank line.new }
 {
     if line.used < line.places.len() && line.free(&x) {
         line.put(x);
@@ -63,7 +63,7 @@ fn enter<T: Placed>(line: &mut Table<'_, T>, x: T) -> bool
 
 // Empties the table, and enters three records.
 fn enter_three<T: Placed>(line: &mut Table<'_, T>, a: T, b: T, c: T) -> bool
-    ensures { Sound place T.Blank.blank line.new }
+    ensures { Sound T.place T.Blank.blank line.new }
 {
     line.clear(0);
     enter(line, a) && enter(line, b) && enter(line, c)

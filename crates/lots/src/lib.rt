@@ -1,4 +1,6 @@
 // The lots that members hold in contracts, what an arriving quantity makes of them, and what a member holds.
+#![tactic(auto)]
+
 mod arrival;
 mod close;
 mod figures;

@@ -1,5 +1,5 @@
 -- The adjustment, by a position's net and value, is that of its lots, one by one.
-use Rattle.std.proofs.Common.{◌≡◌, ℕ, ◌*◌, List, [], ◌∷◌, ℤ, pos, ◌+ℤ◌, ◌-ℤ◌, ◌*ℤ◌, neg_ℤ, sym, refl, ap, ◌∙◌, arith}
+use Rattle.std.proofs.Common.{◌≡◌, ℕ, ◌*◌, List, [], ◌∷◌, ℤ, pos, ◌+ℤ◌, ◌-ℤ◌, ◌*ℤ◌, neg_ℤ, sym, ap, ◌∙◌, arith}
 use borrow.Author.Differences.{ints}
 use Rattle.market.specs.declared.records.Lot.{Lot}
 use Rattle.market.specs.declared.records.Side.{Side}

@@ -1,7 +1,7 @@
 -- The worked figures: units and bands at opening prices near 1,000,000 kuruş per thousand Sm³.
 use Rattle.std.specs.Prelude.{◌≡◌, true, false}
 use Rattle.market.specs.Opening.{in_band}
-use Rattle.margin.specs.Units.{Units, gas_units, hub_units}
+use Rattle.margin.specs.Units.{gas_units, hub_units}
 
 -- the figures, each by what it shows
 pub record Figures : Type 0 where

@@ -1,5 +1,5 @@
 -- A quotient that is rounded up is at most each whole number that is not below it.
-use Rattle.std.specs.Prelude.{◌≡◌, ℕ, ◌+◌, ◌*◌, ◌/◌, ◌%◌, ◌<◌, ◌≤◌, min}
+use Rattle.std.specs.Prelude.{◌≡◌, ℕ, ◌+◌, ◌*◌, ◌/◌, ◌%◌, ◌<◌, ◌≤◌}
 use Rattle.std.proofs.Common.{ap, add-mul, div-add-mod', div-lt_iff_lt-mul, arith}
 use Rattle.margin.specs.Units.{rounded_up}
 

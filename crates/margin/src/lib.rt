@@ -1,4 +1,6 @@
 // What a margin rule means, and the two rules of the house: the gas rule and the hub rule.
+#![tactic(auto)]
+
 pub mod gas;
 pub mod hub;
 pub mod position;

@@ -3,7 +3,7 @@ use Rattle.std.proofs.Common.{◌≡◌, ℕ, zero, suc, ◌+◌, ◌*◌, ◌/�
 use Rattle.std.proofs.lemmas.Bool.{true≢false, ltb-true, lt-ltb, leb-true, le-leb, and_parts, and_from}
 use Rattle.std.proofs.lemmas.Bool.Decides.{nat_tests}
 use Rattle.market.specs.declared.calendar.Contract.TheVariants.{Month, Quarter, Year}
-use Rattle.market.specs.Calendar.{among, numbers_from, parts}
+use Rattle.market.specs.Calendar.{among, numbers_from}
 use Rattle.market.specs.CalendarLaws.{stands_in, OneQuarter, OneYear, QuarterOfYear, CoversOwn, MonthsByParts, PartsWithin}
 
 -- a number in a row is the first, or lies in the rest

@@ -1,7 +1,6 @@
 -- The slots of a house's contracts are apart, and fill a row of seventeen for each year.
 use Rattle.std.proofs.Common.{◌≡◌, ℕ, ◌-◌, ◌*◌, ◌<◌, ◌≤◌, true, cond, ltb, refl, ap, inl, inr, arith}
 use Rattle.std.proofs.lemmas.Bool.{ltb-true, lt-ltb, le-ltb, cases_lt}
-use Rattle.market.specs.declared.calendar.Contract.{Contract}
 use Rattle.market.specs.declared.calendar.Contract.TheVariants.{Month, Quarter, Year}
 use Rattle.market.specs.Calendar.{in_house, slot, contract_at}
 use Rattle.market.specs.CalendarLaws.{SlotsWithin, SlotsApart, SlotsFilled, SlotsHeld}

@@ -1,5 +1,5 @@
 -- What an answered line counts as.
-use Rattle.std.specs.Prelude.{ℕ, Bool, true, false, Ok, Err, Result}
+use Rattle.std.specs.Prelude.{Bool, true, false, Ok, Err, Result}
 use Rattle.market.specs.declared.refusal.Refusal.{Refusal}
 use Rattle.script.specs.declared.answers.Answer.{Answer}
 use Rattle.script.specs.declared.answers.Answer.TheVariants.{Done, Figure, Now, Refused, Bad}

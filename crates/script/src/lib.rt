@@ -1,4 +1,6 @@
 // Scripts of calls: one call to a line, run on one house and one vault, in order, each line answered.
+#![tactic(auto)]
+
 mod answers;
 mod desk;
 mod program;

@@ -82,7 +82,7 @@ fn journal_fills_up(rt: HostRuntime) {
     assert_eq!(rt; vault.balance(3), 25);
     assert_eq!(rt;
         vault.entries(),
-        &[
+        [
             Entry {
                 account: 3,
                 amount: 40,
@@ -92,5 +92,6 @@ fn journal_fills_up(rt: HostRuntime) {
                 amount: -15,
             },
         ]
+        .as_slice()
     );
 }

@@ -1,4 +1,4 @@
-use Rattle.std.proofs.Common.{◌≡◌, ◌+◌, ◌-◌, ◌*◌, ◌<◌, min, leb, length, get_or, sym, arith, false-eqb}
+use Rattle.std.proofs.Common.{◌≡◌, ◌+◌, ◌-◌, ◌*◌, ◌<◌, min, leb, length, get_or, arith, false-eqb}
 use Rattle.std.proofs.lemmas.Bool.{and_from, and_left, and_right, le-leb, lt-leb}
 use Rattle.grammar.proofs.Reading.{read_stop, read_on, read_end}
 use Rattle.grammar.proofs.numbers.number_up_to.Goals as goal

@@ -1,5 +1,5 @@
 -- A price of at most 4,000,000 times a net of 64 bits fits.
-use Rattle.std.proofs.Common.{◌≡◌, ◌*◌, ◌^◌, ◌≤◌, pos, ◌*ℤ◌, nat_abs, arith, w64, SFits, rules}
+use Rattle.std.proofs.Common.{◌*◌, ◌^◌, ◌≤◌, pos, ◌*ℤ◌, nat_abs, arith, w64, SFits, rules}
 use Rattle.std.proofs.lemmas.Int.{ints}
 use Rattle.margin.proofs.Products.{Small, product_exact, product_fits, size_le}
 use Rattle.margin.proofs.position.at_opening.Goals as goal

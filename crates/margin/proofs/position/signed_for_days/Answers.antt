@@ -1,5 +1,5 @@
 -- A number of at most 32 bits times an amount fits, and is at most 2 ^ 32 times the amount.
-use Rattle.std.proofs.Common.{◌≡◌, ◌*◌, ◌^◌, ◌≤◌, pos, ◌*ℤ◌, nat_abs, arith}
+use Rattle.std.proofs.Common.{◌*◌, ◌^◌, ◌≤◌, pos, ◌*ℤ◌, nat_abs, arith}
 use Rattle.std.proofs.lemmas.Int.{ints}
 use Rattle.margin.proofs.Products.{Small, product_exact, product_fits, size_le}
 use Rattle.margin.proofs.position.signed_for_days.Goals as goal

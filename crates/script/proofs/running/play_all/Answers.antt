@@ -1,8 +1,7 @@
-use Rattle.std.proofs.Common.{◌≡◌, ◌<◌, ◌∷◌, length, ap, arith, true-eqb, false-eqb}
+use Rattle.std.proofs.Common.{◌≡◌, ◌<◌, length, ap, arith, true-eqb, false-eqb}
 use Rattle.grammar.specs.Words.{lines}
 use Rattle.script.proofs.Counting.{none_counted_yet, one_counted, all_counted}
 use Rattle.grammar.proofs.Cutting.{lines_split, line_shorter, lines_few}
-use Rattle.script.proofs.running.play_all.Given as given
 use Rattle.script.proofs.running.play_all.Goals as goal
 
 pub counted-summary-requires : goal.counted-summary-requires

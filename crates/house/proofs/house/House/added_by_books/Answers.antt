@@ -1,4 +1,4 @@
-use Rattle.std.proofs.Common.{◌≡◌, ℕ, ◌+◌, ◌-◌, ◌*◌, ◌<◌, ◌≤◌, ◌+ℤ◌, sym, ap, ◌∙◌, arith}
+use Rattle.std.proofs.Common.{◌≡◌, ◌+◌, ◌-◌, ◌*◌, ◌≤◌, ◌+ℤ◌, sym, ap, ◌∙◌, arith}
 use borrow.Author.Differences.{ints}
 use Rattle.market.specs.Calendar.{in_house, contract_at}
 use Rattle.market.proofs.Slots.{slots_held}

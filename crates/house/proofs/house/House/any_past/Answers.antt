@@ -1,4 +1,4 @@
-use Rattle.std.proofs.Common.{◌≡◌, ℕ, ◌+◌, ◌-◌, ◌<◌, Bool, true, false, ◌||◌, sym, ap, ◌∙◌, arith}
+use Rattle.std.proofs.Common.{◌≡◌, ◌+◌, ◌-◌, Bool, ◌||◌, sym, ap, ◌∙◌, arith}
 use Rattle.house.specs.Runs.{any_past}
 use Rattle.house.proofs.Runs.{any_past_step, any_past_none}
 use Rattle.house.proofs.house.House.any_past.Goals as goal

@@ -1,11 +1,9 @@
 -- An opened house holds no lots, and its books weigh nothing.
-use Rattle.std.proofs.Common.{◌≡◌, ◌*◌, ◌≤◌, true, [], length, pos, sym, ap, ◌∙◌, arith, rules}
+use Rattle.std.proofs.Common.{◌≡◌, true, [], ap, rules}
 use Rattle.line.specs.Lines.{in_line, each}
-use Rattle.line.specs.Tables.{records, whole, places, held}
+use Rattle.line.specs.Tables.{records}
 use Rattle.market.specs.Places.{lot_place}
-use Rattle.market.specs.Records.{no_order, no_lot, no_trade}
 use Rattle.lots.specs.Lots.{fit, one_sided}
-use Rattle.history.specs.Calls.{figures}
 use Rattle.house.specs.Sound.{Weighed}
 use Rattle.house.proofs.Books.{blank_weighed}
 use Rattle.house.proofs.house.House.begin.Goals as goal

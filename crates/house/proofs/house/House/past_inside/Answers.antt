@@ -1,4 +1,4 @@
-use Rattle.std.proofs.Common.{◌≡◌, ◌*◌, Bool, ◌||◌, sym, ap, ◌∙◌}
+use Rattle.std.proofs.Common.{◌*◌, Bool, ◌||◌, sym, ap, ◌∙◌}
 use Rattle.history.specs.Standing.{past_inside}
 use Rattle.house.specs.Runs.{any_past}
 use Rattle.house.specs.View.{view}

@@ -1,11 +1,10 @@
 -- The figures fit their types, so they are those of the books.
-use Rattle.std.proofs.Common.{◌≡◌, ℕ, ◌*◌, ◌≤◌, ℤ, pos, nat_abs, sym, refl, ap, ◌∙◌, subst, arith}
+use Rattle.std.proofs.Common.{ℕ, ◌≤◌, sym, ap, ◌∙◌, subst, arith}
 use Rattle.line.specs.Tables.{records}
 use Rattle.lots.specs.Sums.{net, value}
 use Rattle.margin.specs.Cover.{weight}
 use Rattle.margin.specs.declared.position.Position.{Position}
 use Rattle.history.specs.Books.{position}
-use Rattle.house.specs.View.{view}
 use Rattle.house.proofs.Adding.{in_64, same_position, weighs}
 use Rattle.house.proofs.Books.{opened_by}
 use Rattle.house.proofs.house.House.position.Goals as goal

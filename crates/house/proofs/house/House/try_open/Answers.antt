@@ -1,5 +1,5 @@
 -- A refused opening leaves the house as it was.
-use Rattle.std.proofs.Common.{◌≡◌, sym, ◌∙◌}
+use Rattle.std.proofs.Common.{sym, ◌∙◌}
 use Rattle.std.proofs.lemmas.Result.{err_from_is_err_and}
 use Rattle.market.specs.declared.phase.Phase.TheVariants.{Evening}
 use Rattle.vault.specs.Checks.{first_that_holds}
