@@ -1,5 +1,5 @@
 -- What an arrival does to every member's quantity and money in every contract.
-use Rattle.std.proofs.Common.{◌≡◌, ℕ, ◌*◌, ◌<◌, ◌≤◌, Bool, true, false, List, length, get_or, set, ℤ, pos, ◌+ℤ◌, ◌-ℤ◌, sym, refl, ap, ◌∙◌, subst, ⊎_elim, arith}
+use Rattle.std.proofs.Common.{◌≡◌, ℕ, ◌*◌, ◌<◌, ◌≤◌, Bool, true, false, length, get_or, set, pos, ◌+ℤ◌, ◌-ℤ◌, sym, ap, ◌∙◌, ⊎_elim, arith}
 use borrow.Author.Differences.{ints}
 use Rattle.std.proofs.lemmas.List.{get_or-set_same, get_or-set_other, length-set}
 use Rattle.std.proofs.lemmas.Bool.{cases_Bool, both_ways, and_from, and_parts, eq-eqb, eqb-true}
@@ -7,8 +7,8 @@ use Rattle.market.specs.Calendar.{in_house, contract_number}
 use Rattle.market.specs.declared.calendar.Contract.{Contract}
 use Rattle.market.specs.declared.records.Lot.{Lot}
 use Rattle.lots.specs.Lots.{held_by}
-use Rattle.lots.specs.Closing.{arrived, earnings}
-use Rattle.lots.specs.Sums.{counted, signed, net, value}
+use Rattle.lots.specs.Closing.{earnings}
+use Rattle.lots.specs.Sums.{counted, signed, value}
 use Rattle.lots.proofs.Moves.{arrived_net, arrived_value}
 use Rattle.books.specs.Books.{Books, result_index, result_in, net_in, money_in, arrival}
 use Rattle.books.proofs.Rows.{indices_apart, numbers_apart}

@@ -6,7 +6,7 @@ use Rattle.std.proofs.lemmas.Bool.Decides.{nat_tests}
 use Rattle.line.specs.Lines.{each}
 use Rattle.market.specs.Calendar.{in_house, contract_number, quarter_of, year_of}
 use Rattle.market.specs.declared.calendar.Contract.{Contract}
-use Rattle.market.specs.declared.calendar.Contract.TheVariants.{Month, Quarter, Year}
+use Rattle.market.specs.declared.calendar.Contract.TheVariants.{Month}
 use Rattle.market.specs.declared.records.Lot.{Lot}
 use Rattle.lots.specs.Lots.{held_by, fit, one_sided}
 use Rattle.lots.specs.Closing.{arrived, earnings}

@@ -1,14 +1,14 @@
 -- What booking trades does, in the words of the trade, and what it asks of the trades and of the tables.
 use Rattle.std.specs.Prelude.{◌≡◌, ℕ, ◌+◌, ◌*◌, ◌<◌, ◌≤◌, true, List, length, ℤ, ◌+ℤ◌}
 use Rattle.std.specs.List.{AllByRecursion as All}
-use Rattle.line.specs.Tables.{records, whole, Within}
+use Rattle.line.specs.Tables.{records, Within}
 use Rattle.line.specs.declared.table.Table.{Table}
 use Rattle.market.specs.Calendar.{contract_number, in_house}
 use Rattle.market.specs.declared.calendar.Contract.{Contract}
 use Rattle.market.specs.declared.records.Lot.{Lot}
 use Rattle.market.specs.declared.records.Trade.{Trade}
 use Rattle.lots.specs.Lots.{LotsKept}
-use Rattle.books.specs.Books.{Books, books_in, result_index, net_in, money_in, weight_in, month_weight}
+use Rattle.books.specs.Books.{Books, net_in, money_in, weight_in, month_weight}
 use Rattle.books.specs.Given.{net_given, money_given}
 
 -- a trade that can be booked in a contract of a house of so many members and years: it is of that contract, its figures are in range, and two different members made it

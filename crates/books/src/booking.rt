@@ -1,4 +1,4 @@
-// How trades are booked: the buyer's quantity arrives at its lots and results, and then the seller's.
+// How what a trade brings is booked: a lot arrives at the lots and results of its member.
 ghost use Rattle.std.specs.Prelude.{◌≡◌, suc, ◌+◌, ◌-◌, ◌*◌, ◌<◌, ◌≤◌, true, length, drop};
 ghost use Rattle.std.specs.List.{AllByRecursion as All};
 ghost use Rattle.line.specs.Lines.{Free};
@@ -70,71 +70,4 @@ fn book_lot(
 {
     let index = result_index(years, lot.member, contract);
     arrive(lots, results, lot, index);
-}
-
-// Books one trade, with its number on the tape.
-fn book_trade(
-    lots: &mut Table<'_, Lot>,
-    results: &mut Table<'_, i64>,
-    members: u8,
-    years: u8,
-    contract: Contract,
-    trade: &Trade,
-    tape: u32,
-)
-    requires house { (years ≤ 4) × (in_house years contract ≡ true) }
-    requires ready { Ready members years tape lots.old results.old }
-    requires trade { Bookable members contract trade.now }
-    requires room { lots.old.used + 2 ≤ length (whole lots.old) }
-    requires weighed { WeighAtMost 100000000000000 members years contract (books_in lots.old results.old) }
-    ensures does { books_in lots.new results.new ≡ booked years contract tape trade.now (books_in lots.old results.old) }
-    ensures loans { (lots.new.places.ghost_name ≡ lots.old.places.ghost_name) × (results.new.places.ghost_name ≡ results.old.places.ghost_name) }
-    ensures lengths { (length (whole lots.new) ≡ length (whole lots.old)) × (length (whole results.new) ≡ length (whole results.old)) }
-    ensures used { lots.new.used ≤ lots.old.used + 2 }
-    ensures behind { behind results.new ≡ behind results.old }
-    ensures ready { Ready members years (tape + 1) lots.new results.new }
-    ensures weighed { WeighMore 10000000000 years contract (books_in lots.old results.old) (books_in lots.new results.new) }
-{
-    let bought = bought_lot(trade, tape);
-    book_lot(lots, results, members, years, contract, bought);
-    let sold = sold_lot(trade, tape);
-    book_lot(lots, results, members, years, contract, sold);
-}
-
-// Books the trades on the tape from an index on, one after the other. They are trades in the contract.
-pub fn book_trades(
-    lots: &mut Table<'_, Lot>,
-    results: &mut Table<'_, i64>,
-    tape: &Table<'_, Trade>,
-    from: usize,
-    members: u8,
-    years: u8,
-    contract: Contract,
-)
-    requires house { (years ≤ 4) × (in_house years contract ≡ true) }
-    requires tape { (Within tape.now) × ((from ≤ tape.now.used) × (tape.now.used ≤ 4096)) }
-    requires ready { Ready members years (from + 1) lots.old results.old }
-    requires trades { All (Bookable members contract) (drop from (records tape.now)) }
-    requires room { lots.old.used + 2 * (tape.now.used - from) ≤ length (whole lots.old) }
-    requires weighed { WeighAtMost 40960000000000 members years contract (books_in lots.old results.old) }
-    ensures does { books_in lots.new results.new ≡ booked_from years contract (from + 1) (drop from (records tape.now)) (books_in lots.old results.old) }
-    ensures loans { (lots.new.places.ghost_name ≡ lots.old.places.ghost_name) × (results.new.places.ghost_name ≡ results.old.places.ghost_name) }
-    ensures lengths { (length (whole lots.new) ≡ length (whole lots.old)) × (length (whole results.new) ≡ length (whole results.old)) }
-    ensures behind { behind results.new ≡ behind results.old }
-    ensures ready { Ready members years (tape.now.used + 1) lots.new results.new }
-    ensures laws { TradesBooked years (drop from (records tape.now)) (books_in lots.old results.old) (books_in lots.new results.new) }
-{
-    let end = tape.used;
-    for k in from..end {
-        let trade = tape.at(k);
-        book_trade(
-            lots,
-            results,
-            members,
-            years,
-            contract,
-            &trade,
-            k as u32 + 1,
-        );
-    }
 }

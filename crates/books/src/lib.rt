@@ -1,6 +1,7 @@
-// The books: lots and results together, and how trades are booked in them.
+// The books: lots and results together, and how a lot arrives in them.
+#![tactic(auto)]
+
 mod booking;
 mod indices;
 
-pub use booking::book_trades;
 pub use indices::result_index;

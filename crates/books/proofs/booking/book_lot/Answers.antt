@@ -1,9 +1,9 @@
-use Rattle.std.proofs.Common.{◌≡◌, ℕ, ◌≤◌, List, get_or, set, ℤ, pos, ◌+ℤ◌, sym, ap, ◌∙◌, subst, arith}
+use Rattle.std.proofs.Common.{◌≡◌, ℕ, List, get_or, set, ℤ, pos, ◌+ℤ◌, ap, ◌∙◌, arith}
 use Rattle.line.specs.Tables.{records}
 use Rattle.market.specs.declared.records.Lot.{Lot}
 use Rattle.lots.specs.Closing.{earnings}
 use Rattle.lots.specs.Sums.{weight}
-use Rattle.books.specs.Books.{Books, books_in, result_index, result_in, weight_in, arrival}
+use Rattle.books.specs.Books.{books_in, result_in, weight_in, arrival}
 use Rattle.books.proofs.Rows.{index_within}
 use Rattle.books.proofs.booking.book_lot.Goals as goal
 
