@@ -1,6 +1,6 @@
 -- What booking trades does, in the words of the trade, and what it asks of the trades and of the tables.
 use Rattle.std.specs.Prelude.{◌≡◌, ℕ, ◌+◌, ◌*◌, ◌<◌, ◌≤◌, true, List, length, ℤ, ◌+ℤ◌}
-use Rattle.std.specs.List.{AllByRecursion as All}
+use Rattle.std.specs.List.{AllByRecursion}
 use Rattle.line.specs.Tables.{records, Within}
 use Rattle.line.specs.declared.table.Table.{Table}
 use Rattle.market.specs.Calendar.{contract_number, in_house}
@@ -25,7 +25,7 @@ pub record Bookable (members : ℕ) (c : Contract) (t : Trade) : Type 0 where
 -- tables at which trades can be booked from a number on the tape on: the lots are kept and come from trades before it, and every member has its results
 pub record Ready (members years number : ℕ) (lots : Table Lot) (results : Table ℤ) : Type 0 where
   pub kept : LotsKept lots
-  pub older : All (λ l. l.tape < number) (records lots)
+  pub older : AllByRecursion (λ l. l.tape < number) (records lots)
   pub within : Within results
   pub counted : results.used ≡ members * (17 * years)
 

@@ -1,6 +1,6 @@
 // How what a trade brings is booked: a lot arrives at the lots and results of its member.
 ghost use Rattle.std.specs.Prelude.{◌≡◌, suc, ◌+◌, ◌-◌, ◌*◌, ◌<◌, ◌≤◌, true, length, drop};
-ghost use Rattle.std.specs.List.{AllByRecursion as All};
+ghost use Rattle.std.specs.List.{AllByRecursion};
 ghost use Rattle.line.specs.Lines.{Free};
 ghost use Rattle.line.specs.Tables.{records, whole, behind, Within, Room};
 ghost use Rattle.market.specs.Calendar.{in_house, contract_number};

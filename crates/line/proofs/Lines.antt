@@ -1,6 +1,6 @@
 -- Lines of records: what stands where, and which changes keep a line.
 use Rattle.std.proofs.Common.{◌≡◌, ℕ, zero, suc, ◌+◌, ◌<◌, ◌≤◌, Bool, true, false, cond, ◌&&◌, List, [], ◌∷◌, ◌++◌, map, length, get_or, take, drop, set, filter, sym, refl, ap, ◌∙◌, ⊎_elim, arith}
-use Rattle.std.specs.List.{AllByRecursion as All}
+use Rattle.std.specs.List.{AllByRecursion}
 use Rattle.std.proofs.lemmas.Bool.{cases_Bool, both_ways, and_parts, and_from}
 use Rattle.std.proofs.ByRecursion.{All-get_or, All-weaker, all_kept_by, All-append, All-take, All-drop}
 use Rattle.line.specs.Places.{Rank, ahead}
@@ -10,14 +10,14 @@ use Rattle.line.proofs.Order.{ahead_never, ahead_onward, ahead_apart, ahead_past
 -- a line, as a fact about each record in place of a test
 abbrev pub InLine : {X : Type 0} → (X → List Rank) → List X → Type 0
 InLine place [] = Unit {0}
-InLine place (x ∷ xs) = All (λ y. ahead (place x) (place y) ≡ true) xs × InLine place xs
+InLine place (x ∷ xs) = AllByRecursion (λ y. ahead (place x) (place y) ≡ true) xs × InLine place xs
 
 -- a test of each, as a fact about each record, and back
-pub each_opened : {X : Type 0} (test : X → Bool) (xs : List X) → each test xs ≡ true → All (λ x. test x ≡ true) xs
+pub each_opened : {X : Type 0} (test : X → Bool) (xs : List X) → each test xs ≡ true → AllByRecursion (λ x. test x ≡ true) xs
 each_opened test [] h = tt
 each_opened test (x ∷ xs) h = let b = and_parts _ _ h in (b.0, each_opened test xs b.1)
 
-pub each_shut : {X : Type 0} (test : X → Bool) (xs : List X) → All (λ x. test x ≡ true) xs → each test xs ≡ true
+pub each_shut : {X : Type 0} (test : X → Bool) (xs : List X) → AllByRecursion (λ x. test x ≡ true) xs → each test xs ≡ true
 each_shut test [] h = refl
 each_shut test (x ∷ xs) h = and_from _ _ h.0 (each_shut test xs h.1)
 
@@ -25,16 +25,16 @@ drop_none : {X : Type 0} (n : ℕ) → drop {A = X} n [] ≡ []
 drop_none zero = refl
 drop_none (suc n) = refl
 
-none_kept : {X : Type 0} (test : X → Bool) (xs : List X) → All (λ x. test x ≡ false) xs → filter test xs ≡ []
+none_kept : {X : Type 0} (test : X → Bool) (xs : List X) → AllByRecursion (λ x. test x ≡ false) xs → filter test xs ≡ []
 none_kept test [] a = refl
 none_kept test (x ∷ xs) a = rw a.0 (none_kept test xs a.1)
 
 module _ {X : Type 0} (place : X → List Rank) where
-  all_opened : (x : X) (xs : List X) → before_all place x xs ≡ true → All (λ y. ahead (place x) (place y) ≡ true) xs
+  all_opened : (x : X) (xs : List X) → before_all place x xs ≡ true → AllByRecursion (λ y. ahead (place x) (place y) ≡ true) xs
   all_opened x [] h = tt
   all_opened x (y ∷ ys) h = let b = and_parts _ _ h in (b.0, all_opened x ys b.1)
 
-  all_shut : (x : X) (xs : List X) → All (λ y. ahead (place x) (place y) ≡ true) xs → before_all place x xs ≡ true
+  all_shut : (x : X) (xs : List X) → AllByRecursion (λ y. ahead (place x) (place y) ≡ true) xs → before_all place x xs ≡ true
   all_shut x [] h = refl
   all_shut x (y ∷ ys) h = and_from _ _ h.0 (all_shut x ys h.1)
 
@@ -56,7 +56,7 @@ module _ {X : Type 0} (place : X → List Rank) where
   in_line_at (x ∷ xs) (suc i) (suc j) d h a b = in_line_at xs i j d h.1 (omega arith) (omega arith)
 
   -- behind a record that is not ahead of a place none is
-  not_behind : (p : List Rank) (x : X) (xs : List X) → ahead (place x) p ≡ false → All (λ y. ahead (place x) (place y) ≡ true) xs → All (λ y. ahead (place y) p ≡ false) xs
+  not_behind : (p : List Rank) (x : X) (xs : List X) → ahead (place x) p ≡ false → AllByRecursion (λ y. ahead (place x) (place y) ≡ true) xs → AllByRecursion (λ y. ahead (place y) p ≡ false) xs
   not_behind p x xs e a =
       All-weaker (λ y. ahead (place x) (place y) ≡ true) (λ y. ahead (place y) p ≡ false)
       (λ y k. ⊎_elim (λ m. absurd (both_ways (ahead (place x) p) e (ahead_onward (place x) (place y) p k m))) (λ m. m) (cases_Bool (ahead (place y) p)))
@@ -72,11 +72,11 @@ module _ {X : Type 0} (place : X → List Rank) where
   spot_within p [] = omega arith
   spot_within p (x ∷ xs) = elim (ahead (place x) p) as (λ v. cond v (suc (spot place p xs)) 0 ≤ suc (length xs)) [ true ↦ (let h = spot_within p xs in omega arith) | false ↦ omega arith ]
 
-  pub spot_before : (p : List Rank) (xs : List X) → All (λ x. ahead (place x) p ≡ true) (take (spot place p xs) xs)
+  pub spot_before : (p : List Rank) (xs : List X) → AllByRecursion (λ x. ahead (place x) p ≡ true) (take (spot place p xs) xs)
   spot_before p [] = tt
   spot_before p (x ∷ xs) = ⊎_elim (λ e. rw e (e, spot_before p xs)) (λ e. rw e tt) (cases_Bool (ahead (place x) p))
 
-  pub spot_behind : (p : List Rank) (xs : List X) → InLine place xs → All (λ x. ahead (place x) p ≡ false) (drop (spot place p xs) xs)
+  pub spot_behind : (p : List Rank) (xs : List X) → InLine place xs → AllByRecursion (λ x. ahead (place x) p ≡ false) (drop (spot place p xs) xs)
   spot_behind p [] h = tt
   spot_behind p (x ∷ xs) h =
       ⊎_elim (λ e. rw e (spot_behind p xs h.1)) (λ e. rw e (e, not_behind p x xs e h.0)) (cases_Bool (ahead (place x) p))
@@ -98,7 +98,7 @@ module _ {X : Type 0} (place : X → List Rank) where
       (λ e. rw e (omega arith))
       (cases_Bool (ahead (place x) p))
 
-  spot_none : (p : List Rank) (xs : List X) → All (λ y. ahead (place y) p ≡ false) xs → spot place p xs ≡ 0
+  spot_none : (p : List Rank) (xs : List X) → AllByRecursion (λ y. ahead (place y) p ≡ false) xs → spot place p xs ≡ 0
   spot_none p [] a = refl
   spot_none p (x ∷ xs) a = rw a.0
 
@@ -152,10 +152,10 @@ module _ {X : Type 0} (place : X → List Rank) where
   length_entered x (y ∷ ys) =
       elim (ahead (place y) (place x)) as (λ v. length (cond v (y ∷ entered place x ys) (x ∷ y ∷ ys)) ≡ suc (length ys) + 1) [ true ↦ (let h = length_entered x ys in omega arith) | false ↦ omega arith ]
 
-  pub all_entered : (P : X → Type 0) (x : X) (xs : List X) → P x → All P xs → All P (entered place x xs)
+  pub all_entered : (P : X → Type 0) (x : X) (xs : List X) → P x → AllByRecursion P xs → AllByRecursion P (entered place x xs)
   all_entered P x [] h a = (h, a)
   all_entered P x (y ∷ ys) h a =
-      elim (ahead (place y) (place x)) as (λ v. All P (cond v (y ∷ entered place x ys) (x ∷ y ∷ ys))) [ true ↦ (a.0, all_entered P x ys h a.1) | false ↦ (h, a) ]
+      elim (ahead (place y) (place x)) as (λ v. AllByRecursion P (cond v (y ∷ entered place x ys) (x ∷ y ∷ ys))) [ true ↦ (a.0, all_entered P x ys h a.1) | false ↦ (h, a) ]
 
   pub in_line_entered : (x : X) (xs : List X) → InLine place xs → Free place x xs → InLine place (entered place x xs)
   in_line_entered x [] h f = (tt, tt)
@@ -178,7 +178,7 @@ module _ {X : Type 0} (place : X → List Rank) where
   in_line_drop (suc n) [] h = tt
   in_line_drop (suc n) (x ∷ xs) h = in_line_drop n xs h.1
 
-  pub all_taken_out : (P : X → Type 0) (from to : ℕ) (xs : List X) → All P xs → All P (taken_out from to xs)
+  pub all_taken_out : (P : X → Type 0) (from to : ℕ) (xs : List X) → AllByRecursion P xs → AllByRecursion P (taken_out from to xs)
   all_taken_out P from to xs a = All-append P (take from xs) (drop to xs) (All-take P from xs a) (All-drop P to xs a)
 
   pub in_line_taken_out : (from to : ℕ) (xs : List X) → from ≤ to → InLine place xs → InLine place (taken_out from to xs)

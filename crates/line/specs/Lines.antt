@@ -1,7 +1,7 @@
 -- Records in line, and what each change makes of a line, as lists.
 -- place: the place that a record has; spot: where in the line a place belongs, counted from 0.
 use Rattle.std.specs.Prelude.{ℕ, suc, Bool, true, false, cond, ◌&&◌, List, [], ◌∷◌, ◌++◌, take, drop, ◌≢◌}
-use Rattle.std.specs.List.{AllByRecursion as All}
+use Rattle.std.specs.List.{AllByRecursion}
 use Rattle.line.specs.Places.{Rank, ahead}
 
 -- whether each of a list passes a test
@@ -26,7 +26,7 @@ spot place p (x ∷ xs) = cond (ahead (place x) p) (suc (spot place p xs)) 0
 
 -- no record has the place of x
 abbrev pub Free : {X : Type 0} → (X → List Rank) → X → List X → Type 0
-Free place x xs = All (λ y. place y ≢ place x) xs
+Free place x xs = AllByRecursion (λ y. place y ≢ place x) xs
 
 -- the line with x put where it belongs
 abbrev pub entered : {X : Type 0} → (X → List Rank) → X → List X → List X

@@ -1,6 +1,6 @@
 -- What is known of each lot of a table: tests of all as facts about each, and the bounds of a lot that is fit.
 use Rattle.std.proofs.Common.{◌≡◌, ℕ, zero, suc, ◌<◌, ◌≤◌, true, not, List, [], ◌∷◌, length, get_or, drop, sym, refl, subst}
-use Rattle.std.specs.List.{AllByRecursion as All}
+use Rattle.std.specs.List.{AllByRecursion}
 use Rattle.std.proofs.lemmas.Bool.{and_parts, and_from, leb-true}
 use Rattle.std.proofs.ByRecursion.{All-get_or, All-weaker}
 use Rattle.market.specs.Records.{no_lot}
@@ -23,7 +23,7 @@ fit_parts l h =
     let a = and_parts _ _ h in let b = and_parts _ _ a.1 in let q = and_parts _ _ b.0 in let p = and_parts _ _ b.1 in
     record { sided = a.0; some = leb-true _ _ q.0; most = leb-true _ _ q.1; priced = leb-true _ _ p.0; dear = leb-true _ _ p.1 }
 
-pub all_fit : (rs : List Lot) → each fit rs ≡ true → All Fits rs
+pub all_fit : (rs : List Lot) → each fit rs ≡ true → AllByRecursion Fits rs
 all_fit rs h = All-weaker (λ l. fit l ≡ true) Fits fit_parts rs (each_opened fit rs h)
 
 pub fit_at : (rs : List Lot) (i : ℕ) (l : Lot) → each fit rs ≡ true → i < length rs → l ≡ get_or rs i no_lot → fit l ≡ true
@@ -32,7 +32,7 @@ fit_at rs i l h lt is = subst (λ (k : Lot). fit k ≡ true) (sym is) (All-get_o
 -- no lot opposes one that follows it
 abbrev pub OneSided : List Lot → Type 0
 OneSided [] = Unit {0}
-OneSided (l ∷ ls) = All (λ k. not (opposes l k) ≡ true) ls × OneSided ls
+OneSided (l ∷ ls) = AllByRecursion (λ k. not (opposes l k) ≡ true) ls × OneSided ls
 
 pub sided_opened : (ls : List Lot) → one_sided ls ≡ true → OneSided ls
 sided_opened [] h = tt

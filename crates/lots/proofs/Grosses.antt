@@ -1,7 +1,7 @@
 -- The gross quantity: with one side it is the net quantity without its sign, and an arrival adds at most its own.
 use Rattle.std.proofs.Common.{◌≡◌, ℕ, ◌+◌, ◌-◌, ◌*◌, ◌≤◌, Bool, true, false, cond, not, List, [], ◌∷◌, ℤ, ◌+ℤ◌, nat_abs, sym, refl, ap, ◌∙◌, ⊎_elim, arith}
 use borrow.Author.Differences.{ints}
-use Rattle.std.specs.List.{AllByRecursion as All}
+use Rattle.std.specs.List.{AllByRecursion}
 use Rattle.std.proofs.lemmas.Bool.{cases_Bool, both_ways, not-true}
 use Rattle.std.proofs.lemmas.Bool.Decides.{nat_tests}
 use Rattle.line.specs.Places.{ahead}
@@ -25,7 +25,7 @@ one_more true Sell t q g z hs h e = ap (λ x. signed x q +ℤ z) (h refl) ∙ om
 one_more false Buy t q g z hs h e = omega (arith, ints)
 one_more false Sell t q g z hs h e = omega (arith, ints)
 
-all_one : (m c : ℕ) (s : Side) (ls : List Lot) → is_sided s ≡ true → All (λ k. held_by m c k ≡ true → k.side ≡ s) ls → net m c ls ≡ signed s (gross m c ls)
+all_one : (m c : ℕ) (s : Side) (ls : List Lot) → is_sided s ≡ true → AllByRecursion (λ k. held_by m c k ≡ true → k.side ≡ s) ls → net m c ls ≡ signed s (gross m c ls)
 all_one m c Free [] hs h = refl
 all_one m c Buy [] hs h = refl
 all_one m c Sell [] hs h = refl
@@ -47,7 +47,7 @@ agree_side m c l k fl fk hl hk o =
     let same : held_by l.member l.contract k ≡ true = cc in
     same_side l.side k.side fl.sided fk.sided (not_opposite l k same o)
 
-agree_all : (m c : ℕ) (l : Lot) (ks : List Lot) → Fits l → All Fits ks → held_by m c l ≡ true → All (λ k. not (opposes l k) ≡ true) ks → All (λ k. held_by m c k ≡ true → k.side ≡ l.side) ks
+agree_all : (m c : ℕ) (l : Lot) (ks : List Lot) → Fits l → AllByRecursion Fits ks → held_by m c l ≡ true → AllByRecursion (λ k. not (opposes l k) ≡ true) ks → AllByRecursion (λ k. held_by m c k ≡ true → k.side ≡ l.side) ks
 agree_all m c l [] fl fs h o = tt
 agree_all m c l (k ∷ ks) fl fs h o = ((λ hk. agree_side m c l k fl fs.0 h hk (not-true (opposes l k) o.0)), agree_all m c l ks fl fs.1 h o.1)
 
@@ -57,7 +57,7 @@ gross_abs Buy n h = refl
 gross_abs Sell n h = omega (arith, ints)
 
 -- with one side the gross quantity is the net quantity without its sign
-pub gross_net : (m c : ℕ) (ls : List Lot) → All Fits ls → OneSided ls → gross m c ls ≡ nat_abs (net m c ls)
+pub gross_net : (m c : ℕ) (ls : List Lot) → AllByRecursion Fits ls → OneSided ls → gross m c ls ≡ nat_abs (net m c ls)
 gross_net m c [] fs o = refl
 gross_net m c (l ∷ ls) fs o =
     ⊎_elim

@@ -1,6 +1,6 @@
 -- What an arrival keeps: each lot is fit, those of one member in one contract have one side, and places stay free.
 use Rattle.std.proofs.Common.{◌≡◌, ℕ, ◌-◌, ◌≤◌, min, true, false, cond, not, eqb, List, [], ◌∷◌, take, sym, ap, subst, ⊎_elim, arith}
-use Rattle.std.specs.List.{AllByRecursion as All}
+use Rattle.std.specs.List.{AllByRecursion}
 use Rattle.std.proofs.lemmas.Bool.{cases_Bool, cond-true, cond-false, eqb-false}
 use Rattle.std.proofs.lemmas.Bool.Decides.{nat_tests}
 use Rattle.std.proofs.ByRecursion.{All-weaker}
@@ -21,15 +21,15 @@ pub closes_le : (a : Lot) (q : ℕ) (l : Lot) → (closes a q l ≤ q) × (close
 closes_le a q l = (grind arith, grind arith)
 
 module _ (a : Lot) where
-  staying_all : (P : Lot → Type 0) (l : Lot) (n : ℕ) (ls : List Lot) → (1 ≤ n → P (with_quantity l n)) → All P ls → All P (staying l n ls)
+  staying_all : (P : Lot → Type 0) (l : Lot) (n : ℕ) (ls : List Lot) → (1 ≤ n → P (with_quantity l n)) → AllByRecursion P ls → AllByRecursion P (staying l n ls)
   staying_all P l n ls h all =
       ⊎_elim
-      (λ e. subst (λ (xs : List Lot). All P xs) (sym (cond-true _ _ _ e)) all)
-      (λ e. let ne = eqb-false n 0 e in subst (λ (xs : List Lot). All P xs) (sym (cond-false _ _ _ e)) (h (omega (arith, ne)), all))
+      (λ e. subst (λ (xs : List Lot). AllByRecursion P xs) (sym (cond-true _ _ _ e)) all)
+      (λ e. let ne = eqb-false n 0 e in subst (λ (xs : List Lot). AllByRecursion P xs) (sym (cond-false _ _ _ e)) (h (omega (arith, ne)), all))
       (cases_Bool (eqb n 0))
 
   -- what holds of each lot, and of each with less quantity, holds after closing
-  pub closing_all : (P : Lot → Type 0) → ((l : Lot) (n : ℕ) → P l → 1 ≤ n → n ≤ l.quantity → P (with_quantity l n)) → (q : ℕ) (ls : List Lot) → All P ls → All P (closing a q ls).lots
+  pub closing_all : (P : Lot → Type 0) → ((l : Lot) (n : ℕ) → P l → 1 ≤ n → n ≤ l.quantity → P (with_quantity l n)) → (q : ℕ) (ls : List Lot) → AllByRecursion P ls → AllByRecursion P (closing a q ls).lots
   closing_all P w q [] all = tt
   closing_all P w q (l ∷ ls) all =
       staying_all P l (l.quantity - closes a q l) (closing a (q - closes a q l) ls).lots (λ n. w l (l.quantity - closes a q l) all.0 n (omega arith)) (closing_all P w (q - closes a q l) ls all.1)
@@ -38,7 +38,7 @@ module _ (a : Lot) where
   closing_left q [] = omega arith
   closing_left q (l ∷ ls) = let h = closing_left (q - closes a q l) ls in omega arith
 
-  staying_sided : (l : Lot) (n : ℕ) (ls : List Lot) → All (λ k. not (opposes l k) ≡ true) ls → OneSided ls → OneSided (staying l n ls)
+  staying_sided : (l : Lot) (n : ℕ) (ls : List Lot) → AllByRecursion (λ k. not (opposes l k) ≡ true) ls → OneSided ls → OneSided (staying l n ls)
   staying_sided l n ls h o =
       elim (eqb n 0) as (λ v. OneSided (cond v ls (with_quantity l n ∷ ls))) [ true ↦ o | false ↦ (h, o) ]
 
@@ -49,7 +49,7 @@ module _ (a : Lot) where
       (closing_all (λ k. not (opposes l k) ≡ true) (λ k n h _ _. h) (q - closes a q l) ls o.0) (closing_sided (q - closes a q l) ls o.1)
 
   -- where some of the quantity is left, no opposite lot is
-  pub none_left : (q : ℕ) (ls : List Lot) → 1 ≤ (closing a q ls).left → All (λ l. opposes a l ≡ false) (closing a q ls).lots
+  pub none_left : (q : ℕ) (ls : List Lot) → 1 ≤ (closing a q ls).left → AllByRecursion (λ l. opposes a l ≡ false) (closing a q ls).lots
   none_left q [] h = tt
   none_left q (l ∷ ls) h =
       let k = closes a q l in let r = closing a (q - k) ls in
@@ -65,16 +65,16 @@ module _ (a : Lot) where
 fit_less : (l : Lot) (n : ℕ) → fit l ≡ true → 1 ≤ n → n ≤ l.quantity → fit (with_quantity l n) ≡ true
 fit_less l n h a b = let f = fit_parts l h in grind (arith, nat_tests)
 
-pub rested_all : (P : Lot → Type 0) (l : Lot) (ls : List Lot) → (1 ≤ l.quantity → P l) → All P ls → All P (rested l ls)
+pub rested_all : (P : Lot → Type 0) (l : Lot) (ls : List Lot) → (1 ≤ l.quantity → P l) → AllByRecursion P ls → AllByRecursion P (rested l ls)
 rested_all P l ls h all =
     ⊎_elim
-    (λ e. subst (λ (xs : List Lot). All P xs) (sym (cond-true _ _ _ e)) all)
-    (λ e. let ne = eqb-false l.quantity 0 e in subst (λ (xs : List Lot). All P xs) (sym (cond-false _ _ _ e)) (all_entered lot_place P l ls (h (omega (arith, ne))) all))
+    (λ e. subst (λ (xs : List Lot). AllByRecursion P xs) (sym (cond-true _ _ _ e)) all)
+    (λ e. let ne = eqb-false l.quantity 0 e in subst (λ (xs : List Lot). AllByRecursion P xs) (sym (cond-false _ _ _ e)) (all_entered lot_place P l ls (h (omega (arith, ne))) all))
     (cases_Bool (eqb l.quantity 0))
 
 -- after an arrival each lot is fit
 -- what holds of each lot, whatever its quantity, and of the arriving one holds after an arrival
-pub arrived_all : (P : Lot → Type 0) (a : Lot) (ls : List Lot) → ((l : Lot) (n : ℕ) → P l → P (with_quantity l n)) → P a → All P ls → All P (arrived a ls)
+pub arrived_all : (P : Lot → Type 0) (a : Lot) (ls : List Lot) → ((l : Lot) (n : ℕ) → P l → P (with_quantity l n)) → P a → AllByRecursion P ls → AllByRecursion P (arrived a ls)
 unfolding arrived
 arrived_all P a ls w new all =
     let r = closing a a.quantity ls in
@@ -93,7 +93,7 @@ arrived_fit a ls h f =
 agree_new : (a : Lot) (q : ℕ) (y : Lot) → opposes a y ≡ false → (not (opposes y (with_quantity a q)) ≡ true) × (not (opposes (with_quantity a q) y) ≡ true)
 agree_new a q y h = (grind (arith, nat_tests), grind (arith, nat_tests))
 
-entered_sided : (x : Lot) (ys : List Lot) → All (λ y. not (opposes y x) ≡ true) ys → All (λ y. not (opposes x y) ≡ true) ys → OneSided ys → OneSided (entered lot_place x ys)
+entered_sided : (x : Lot) (ys : List Lot) → AllByRecursion (λ y. not (opposes y x) ≡ true) ys → AllByRecursion (λ y. not (opposes x y) ≡ true) ys → OneSided ys → OneSided (entered lot_place x ys)
 entered_sided x [] a b o = (tt, tt)
 entered_sided x (y ∷ ys) a b o =
     elim (ahead (lot_place y) (lot_place x)) as (λ v. OneSided (cond v (y ∷ entered lot_place x ys) (x ∷ y ∷ ys)))

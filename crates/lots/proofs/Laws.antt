@@ -1,7 +1,7 @@
 -- The laws of an arrival, from what it does to sums, to others, and in which order it closes.
 use Rattle.std.proofs.Common.{◌≡◌, ℕ, ◌+◌, ◌-◌, ◌*◌, ◌≤◌, Bool, true, false, cond, eqb, List, [], ◌∷◌, ℤ, ◌+ℤ◌, ◌-ℤ◌, nat_abs, filter, sym, refl, ap, ◌∙◌, ⊎_elim, arith}
 use borrow.Author.Differences.{ints}
-use Rattle.std.specs.List.{AllByRecursion as All}
+use Rattle.std.specs.List.{AllByRecursion}
 use Rattle.std.proofs.lemmas.Bool.{and_from, cases_Bool, cond-true, cond-false, eq-eqb}
 use Rattle.std.proofs.lemmas.Bool.Decides.{nat_tests}
 use Rattle.line.specs.Places.{ahead}
@@ -29,7 +29,7 @@ earns_bounded Free k p old hp ho = omega arith
 earns_bounded Buy k p old hp ho = bounded k old p ho hp
 earns_bounded Sell k p old hp ho = bounded k p old hp ho
 
-pub closing_bound : (a : Lot) (q : ℕ) (ls : List Lot) → a.price ≤ 4000000 → All Fits ls → nat_abs (closing a q ls).earned + 4000000 * (closing a q ls).left ≤ 4000000 * q
+pub closing_bound : (a : Lot) (q : ℕ) (ls : List Lot) → a.price ≤ 4000000 → AllByRecursion Fits ls → nat_abs (closing a q ls).earned + 4000000 * (closing a q ls).left ≤ 4000000 * q
 closing_bound a q [] hp fs = omega arith
 closing_bound a q (l ∷ ls) hp fs =
     let k = closes a q l in
@@ -46,7 +46,7 @@ staying_other : (test : Lot → Bool) (l : Lot) (n : ℕ) (ls : List Lot) → te
 staying_other test l n ls e =
     elim (eqb n 0) as (λ v. filter test (cond v ls (with_quantity l n ∷ ls)) ≡ filter test ls) [ true ↦ refl | false ↦ cond-false _ _ _ e ]
 
-closing_others : (m c : ℕ) (a : Lot) (q : ℕ) (ls : List Lot) → held_by m c a ≡ false → All Fits ls → filter (held_by m c) (closing a q ls).lots ≡ filter (held_by m c) ls
+closing_others : (m c : ℕ) (a : Lot) (q : ℕ) (ls : List Lot) → held_by m c a ≡ false → AllByRecursion Fits ls → filter (held_by m c) (closing a q ls).lots ≡ filter (held_by m c) ls
 closing_others m c a q [] h fs = refl
 closing_others m c a q (l ∷ ls) h fs =
     ⊎_elim
@@ -70,7 +70,7 @@ rested_other : (test : Lot → Bool) (x : Lot) (ys : List Lot) → test x ≡ fa
 rested_other test x ys e =
     elim (eqb x.quantity 0) as (λ v. filter test (cond v ys (entered lot_place x ys)) ≡ filter test ys) [ true ↦ refl | false ↦ entered_other test x ys e ]
 
-pub arrived_others : (m c : ℕ) (a : Lot) (ls : List Lot) → held_by m c a ≡ false → All Fits ls → filter (held_by m c) (arrived a ls) ≡ filter (held_by m c) ls
+pub arrived_others : (m c : ℕ) (a : Lot) (ls : List Lot) → held_by m c a ≡ false → AllByRecursion Fits ls → filter (held_by m c) (arrived a ls) ≡ filter (held_by m c) ls
 unfolding arrived
 arrived_others m c a ls h fs =
     let r = closing a a.quantity ls in

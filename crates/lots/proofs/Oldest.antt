@@ -1,6 +1,6 @@
 -- What is closed is closed oldest first, and nothing but the arriving lot grows.
 use Rattle.std.proofs.Common.{◌≡◌, ℕ, ◌+◌, ◌-◌, ◌<◌, ◌≤◌, min, Bool, true, false, cond, List, [], ◌∷◌, sym, refl, ap, ◌∙◌, ⊎_elim, arith}
-use Rattle.std.specs.List.{AllByRecursion as All}
+use Rattle.std.specs.List.{AllByRecursion}
 use Rattle.std.proofs.lemmas.Bool.{and_parts, and_right, cases_Bool, cases_lt, cond-true, cond-false, eqb-true, ne_eqb}
 use Rattle.std.proofs.lemmas.Bool.Decides.{nat_tests}
 use Rattle.line.specs.Places.{ahead}
@@ -30,7 +30,7 @@ not_older : (m c older : ℕ) (l y : Lot) → held_by m c l ≡ true → older �
 not_older m c older l y h le ah = grind (arith, nat_tests)
 
 -- behind a lot stands nothing of theirs from an older trade
-none_older : (m c older : ℕ) (l : Lot) (ls : List Lot) → held_by m c l ≡ true → older ≤ l.tape → All (λ y. ahead (lot_place l) (lot_place y) ≡ true) ls → open_from m c older ls ≡ 0
+none_older : (m c older : ℕ) (l : Lot) (ls : List Lot) → held_by m c l ≡ true → older ≤ l.tape → AllByRecursion (λ y. ahead (lot_place l) (lot_place y) ≡ true) ls → open_from m c older ls ≡ 0
 none_older m c older l [] h le all = refl
 none_older m c older l (y ∷ ys) h le all =
     ap (λ b. cond b y.quantity 0 + open_from m c older ys) (not_older m c older l y h le all.0) ∙ omega (arith, none_older m c older l ys h le all.1)
@@ -39,7 +39,7 @@ behind_first : (m c : ℕ) (l : Lot) → held_by m c l ≡ true → ahead (lot_p
 behind_first m c l h = grind (arith, nat_tests)
 
 -- a lot in front of which something newer was closed: it is used up
-used_whole : (a : Lot) (newer q : ℕ) (l : Lot) (ls : List Lot) → InLine lot_place (l ∷ ls) → All Fits (l ∷ ls) → OneSided (l ∷ ls) → held_by a.member a.contract l ≡ true
+used_whole : (a : Lot) (newer q : ℕ) (l : Lot) (ls : List Lot) → InLine lot_place (l ∷ ls) → AllByRecursion Fits (l ∷ ls) → OneSided (l ∷ ls) → held_by a.member a.contract l ≡ true
     → open_from a.member a.contract newer (closing a (q - closes a q l) ls).lots < open_from a.member a.contract newer ls → l.quantity - closes a q l ≡ 0
 used_whole a newer q l ls li fs si h fell =
     let m = a.member in let c = a.contract in let k = closes a q l in
@@ -60,7 +60,7 @@ used_whole a newer q l ls li fs si h fell =
     (cases_Bool (opposes a l))
 
 -- where something from a trade was closed, nothing from an older one stays open
-pub closing_oldest : (a : Lot) (older newer : ℕ) → older < newer → (q : ℕ) (ls : List Lot) → InLine lot_place ls → All Fits ls → OneSided ls
+pub closing_oldest : (a : Lot) (older newer : ℕ) → older < newer → (q : ℕ) (ls : List Lot) → InLine lot_place ls → AllByRecursion Fits ls → OneSided ls
     → open_from a.member a.contract newer (closing a q ls).lots < open_from a.member a.contract newer ls → open_from a.member a.contract older (closing a q ls).lots ≡ 0
 closing_oldest a older newer lt q [] li fs si fell = absurd (omega arith)
 closing_oldest a older newer lt q (l ∷ ls) li fs si fell =
@@ -96,7 +96,7 @@ arrived_none_grows a ls tape ne =
     let r = closing a a.quantity ls in
     omega (arith, rested_quantity (comes_from a.member a.contract tape) (with_quantity a r.left) r.lots, apart a tape r.left ne, closing_quantity a (comes_from a.member a.contract tape) (λ x n. refl) a.quantity ls)
 
-pub arrived_oldest_first : (a : Lot) (ls : List Lot) → InLine lot_place ls → All Fits ls → OneSided ls → OldestFirst a ls (arrived a ls)
+pub arrived_oldest_first : (a : Lot) (ls : List Lot) → InLine lot_place ls → AllByRecursion Fits ls → OneSided ls → OldestFirst a ls (arrived a ls)
 unfolding arrived
 arrived_oldest_first a ls li fs si older newer lt ne fell =
     let m = a.member in let c = a.contract in let r = closing a a.quantity ls in

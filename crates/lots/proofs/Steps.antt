@@ -1,7 +1,7 @@
 -- How closing goes over a list of lots, one at a time.
 use Rattle.std.proofs.Common.{◌≡◌, ℕ, ◌+◌, ◌-◌, ◌<◌, ◌≤◌, true, false, List, [], ◌∷◌, ◌++◌, length, get_or, drop, ℤ, pos, ◌+ℤ◌, sym, refl, ap, ◌∙◌, arith}
 use borrow.Author.Differences.{ints}
-use Rattle.std.specs.List.{AllByRecursion as All}
+use Rattle.std.specs.List.{AllByRecursion}
 use Rattle.std.proofs.lemmas.Bool.{ne_eqb, cond-true, cond-false}
 use Rattle.std.proofs.lemmas.List.{drop_more}
 use Rattle.market.specs.Records.{no_lot}
@@ -59,23 +59,23 @@ module _ (a : Lot) where
       ∙ ap (λ xs. record { lots = xs; left = r.left; earned = earns a.side 0 a.price l.price +ℤ r.earned }) k
       ∙ ap (λ g. record { lots = l ∷ r.lots; left = r.left; earned = g }) z
 
-  pub closing_zero : (ls : List Lot) → All Fits ls → closing a 0 ls ≡ untouched 0 ls
+  pub closing_zero : (ls : List Lot) → AllByRecursion Fits ls → closing a 0 ls ≡ untouched 0 ls
   closing_zero [] h = refl
   closing_zero (l ∷ ls) h =
       let t : closes a 0 l ≡ 0 = grind arith in
       step_none 0 l ls t h.0.some ∙ ap (passed l) (closing_zero ls h.1)
 
-  pub closing_none : (q : ℕ) (ls : List Lot) → All Fits ls → All (λ l. opposes a l ≡ false) ls → closing a q ls ≡ untouched q ls
+  pub closing_none : (q : ℕ) (ls : List Lot) → AllByRecursion Fits ls → AllByRecursion (λ l. opposes a l ≡ false) ls → closing a q ls ≡ untouched q ls
   closing_none q [] h o = refl
   closing_none q (l ∷ ls) h o =
       step_none q l ls (cond-false _ _ _ o.0) h.0.some ∙ ap (passed l) (closing_none q ls h.1 o.1)
 
-  pub closing_front : (q : ℕ) (fs ls : List Lot) → All Fits fs → All (λ l. opposes a l ≡ false) fs → closing a q (fs ++ ls) ≡ after fs (closing a q ls)
+  pub closing_front : (q : ℕ) (fs ls : List Lot) → AllByRecursion Fits fs → AllByRecursion (λ l. opposes a l ≡ false) fs → closing a q (fs ++ ls) ≡ after fs (closing a q ls)
   closing_front q [] ls h o = refl
   closing_front q (f ∷ fs) ls h o =
       step_none q f (fs ++ ls) (cond-false _ _ _ o.0) h.0.some ∙ ap (passed f) (closing_front q fs ls h.1 o.1)
 
-  pub step_part : (q : ℕ) (l : Lot) (ls : List Lot) → opposes a l ≡ true → q < l.quantity → All Fits ls → closing a q (l ∷ ls) ≡ record { lots = with_quantity l (l.quantity - q) ∷ ls; left = 0; earned = earns a.side q a.price l.price }
+  pub step_part : (q : ℕ) (l : Lot) (ls : List Lot) → opposes a l ≡ true → q < l.quantity → AllByRecursion Fits ls → closing a q (l ∷ ls) ≡ record { lots = with_quantity l (l.quantity - q) ∷ ls; left = 0; earned = earns a.side q a.price l.price }
   step_part q l ls o lt h =
       let t : closes a q l ≡ q = cond-true _ _ _ o ∙ omega arith in
       let e : q - q ≡ 0 = omega arith in

@@ -1,7 +1,7 @@
 -- Sums over the lots of a member in a contract go by its run alone.
 use Rattle.std.proofs.Common.{◌≡◌, ℕ, ◌+◌, ◌<◌, ◌≤◌, true, false, List, [], ◌∷◌, ◌++◌, length, get_or, take, drop, ℤ, pos, ◌+ℤ◌, sym, refl, ap, ◌∙◌, subst, ⊎_elim, arith}
 use borrow.Author.Differences.{ints}
-use Rattle.std.specs.List.{AllByRecursion as All}
+use Rattle.std.specs.List.{AllByRecursion}
 use Rattle.std.proofs.lemmas.Bool.{cases_Bool, both_ways}
 use Rattle.std.proofs.lemmas.List.{drop_all, take-append-drop}
 use Rattle.std.proofs.ByRecursion.{All-weaker}
@@ -20,7 +20,7 @@ module _ (f : Lot → ℤ) (m c : ℕ) where
   sum_append [] ys = omega (arith, ints)
   sum_append (x ∷ xs) ys = omega (arith, ints, sum_append xs ys)
 
-  pub sum_none : (ls : List Lot) → All (λ l. held_by m c l ≡ false) ls → sum_of f m c ls ≡ pos 0
+  pub sum_none : (ls : List Lot) → AllByRecursion (λ l. held_by m c l ≡ false) ls → sum_of f m c ls ≡ pos 0
   sum_none [] h = refl
   sum_none (l ∷ ls) h = ap (λ b. counted b (f l) +ℤ sum_of f m c ls) h.0 ∙ omega (arith, ints, sum_none ls h.1)
 
@@ -41,6 +41,6 @@ module _ (f : Lot → ℤ) (m c : ℕ) where
   sum_past rs from i l li is le lt gl o =
       let d = from_here rs i l lt gl in
       let li' = subst (λ (xs : List Lot). InLine lot_place xs) d (in_line_drop lot_place i rs li) in
-      let be = subst (λ (xs : List Lot). All (λ k. ahead (lot_place k) (first_place m c) ≡ false) xs) d (behind_from m c rs from i li is le) in
+      let be = subst (λ (xs : List Lot). AllByRecursion (λ k. ahead (lot_place k) (first_place m c) ≡ false) xs) d (behind_from m c rs from i li is le) in
       ap (sum_of f m c) d ∙ sum_none (l ∷ drop (i + 1) rs)
       (o, All-weaker (λ k. ahead (lot_place l) (lot_place k) ≡ true) (λ k. held_by m c k ≡ false) (λ k h. ⊎_elim (λ t. absurd (both_ways (held_by m c l) o (run_on m c l k be.0 h t))) (λ t. t) (cases_Bool (held_by m c k))) (drop (i + 1) rs) li'.0)

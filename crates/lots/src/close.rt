@@ -1,6 +1,6 @@
 // How an arriving lot closes opposite lots of its member in its contract, the lowest tape number first.
 ghost use Rattle.std.specs.Prelude.{◌≡◌, ◌+◌, ◌*◌, ◌<◌, ◌≤◌, true, false, ◌++◌, length, get_or, take, drop, slice_index_or, unsigned_abs};
-ghost use Rattle.std.specs.List.{AllByRecursion as All};
+ghost use Rattle.std.specs.List.{AllByRecursion};
 ghost use Rattle.line.specs.Places.{ahead};
 ghost use Rattle.line.specs.Tables.{records, whole, Sound};
 ghost use Rattle.market.specs.Records.{no_lot};
@@ -113,7 +113,7 @@ fn used_up(lots: &Table<'_, Lot>, from: usize, lot: Lot) -> UsedUp
 fn close_part(lots: &mut Table<'_, Lot>, index: usize, lot: Lot, left: u32) -> Rest
     requires kept { LotsKept lots.old }
     requires there { index ≤ lots.old.used }
-    requires behind { All (λ l. ahead (lot_place l) (first_place lot.member lot.contract) ≡ false) (drop index (records lots.old)) }
+    requires behind { AllByRecursion (λ l. ahead (lot_place l) (first_place lot.member lot.contract) ≡ false) (drop index (records lots.old)) }
     requires more { index < lots.old.used → opposes lot (slice_index_or (records lots.old) index no_lot) ≡ true → left < (get_or (records lots.old) index no_lot).quantity }
     requires fit { fit lot ≡ true }
     requires left { left ≤ lot.quantity }
