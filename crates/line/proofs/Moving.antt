@@ -1,72 +1,71 @@
 -- Moves within a list of places: one put in, a run taken out, and those that pass kept.
-use Rattle.std.proofs.Common.{◌≡◌, ℕ, zero, suc, ◌+◌, ◌-◌, ◌<◌, ◌≤◌, Bool, List, [], ◌∷◌, ◌++◌, length, get_or, take, drop, set, replicate, filter, sym, refl, ap, ◌∙◌, arith}
+use Rattle.std.proofs.Common.{◌≡◌, ℕ, ◌+◌, ◌-◌, ◌<◌, ◌≤◌, List, [], ◌∷◌, ◌++◌, length, take, drop, set, replicate, sym, ap, ◌∙◌, arith}
 use borrow.Rule.Slice.PartMut.{put_mid}
 use Rattle.std.specs.List.{between}
-use Rattle.std.proofs.lemmas.List.Filters.{FiltersInPlace}
-use Rattle.std.proofs.lemmas.List.{append_assoc, take-append-drop, drop-append-le, take-take, take_at, drop_at, drop-drop, drop_more, length-take-le, length-drop, length-append}
+use Rattle.std.specs.List.{copy_within}
+use Rattle.std.proofs.lemmas.List.Edits.{take-paste, drop-paste}
+use Rattle.std.proofs.lemmas.List.{append_assoc, take_more_set, drop-set-lt, take-append-le, drop-take, take-append-drop, drop-append-le, take-take, take_at, drop_at, drop-drop, length-take-le, length-drop, length-append}
 use Rattle.line.specs.Lines.{taken_out}
 
 -- the list with x put in at i
 abbrev pub put_in : {X : Type 0} → ℕ → X → List X → List X
 put_in i x xs = take i xs ++ x ∷ drop i xs
 
--- to put x in at i is to write it there, and to put what stood there in at the next
-carried_on : {X : Type 0} (xs : List X) (i : ℕ) (x d : X) → i < length xs → put_in (suc i) (get_or xs i d) (set xs i x) ≡ put_in i x xs
-carried_on [] i x d h = absurd (omega arith)
-carried_on (y ∷ ys) zero x d h = refl
-carried_on (y ∷ ys) (suc i) x d h = ap (λ l. y ∷ l) (carried_on ys i x d (omega arith))
+pub length_put_in : {X : Type 0} (xs : List X) (i : ℕ) (x : X) → i ≤ length xs → length (put_in i x xs) ≡ length xs + 1
+length_put_in xs i x h = omega (arith, length-append (take i xs) (x ∷ drop i xs), length-take-le i xs h, length-drop i xs)
 
-pub one_carried : {X : Type 0} (xs zs : List X) (i : ℕ) (x next : X) → i < length xs → next ≡ get_or xs i next → put_in i x xs ≡ zs → put_in (i + 1) next (set xs i x) ≡ zs
-one_carried xs zs i x next h is p =
-    let n : i + 1 ≡ suc i = omega arith in
-    ap (λ (k : ℕ). put_in k next (set xs i x)) n ∙ ap (λ y. put_in (suc i) y (set xs i x)) is ∙ carried_on xs i x next h ∙ p
+-- what copying the records from a up to b within the list, to d, leaves: those before d, then the copies; and behind them all as it was
+pub record Copied {X : Type 0} (xs ys : List X) (a b d : ℕ) : Type 0 where
+  pub front : take (d + (b - a)) ys ≡ take d xs ++ take (b - a) (drop a xs)
+  pub behind : drop (d + (b - a)) ys ≡ drop (d + (b - a)) xs
 
--- the last that is carried is written over the place behind the records
-last_carried : {X : Type 0} (xs : List X) (n : ℕ) (x : X) → n < length xs → set xs n x ≡ take (suc n) (put_in n x xs) ++ drop (suc (suc n)) (put_in n x xs)
-last_carried [] n x h = absurd (omega arith)
-last_carried (y ∷ ys) zero x h = refl
-last_carried (y ∷ ys) (suc n) x h = ap (λ l. y ∷ l) (last_carried ys n x (omega arith))
+copied : {X : Type 0} (xs ys : List X) (a b d : ℕ) → a ≤ b → b ≤ length xs → d ≤ length xs → ys ≡ copy_within xs a b d → Copied xs ys a b d
+copied xs ys a b d ab bl dl e =
+    let n : b - a ≤ length (drop a xs) = omega (arith, length-drop a xs) in
+    record {
+      front = ap (take (d + (b - a))) e ∙ take-paste xs d (drop a xs) (b - a) dl n;
+      behind = ap (drop (d + (b - a))) e ∙ drop-paste xs d (drop a xs) (b - a) dl n;
+    }
 
-records_in : {X : Type 0} (xs : List X) (i n : ℕ) (x : X) → i ≤ n → n ≤ length xs → take (suc n) (put_in i x xs) ≡ put_in i x (take n xs)
-records_in xs zero n x le h = refl
-records_in xs (suc i) zero x le h = absurd (omega arith)
-records_in [] (suc i) (suc n) x le h = absurd (omega arith)
-records_in (y ∷ ys) (suc i) (suc n) x le h = ap (λ l. y ∷ l) (records_in ys i n x (omega arith) (omega arith))
+-- the records from i up to n move one back, and x is written at i
+pub moved_back : {X : Type 0} (xs ys : List X) (i n : ℕ) (x : X) → i ≤ n → n < length xs → length ys ≡ length xs → ys ≡ copy_within xs i n (i + 1) → set ys i x ≡ put_in i x (take n xs) ++ drop (n + 1) xs
+moved_back xs ys i n x le h long e =
+    let c = copied xs ys i n (i + 1) le (omega arith) (omega arith) e in
+    let m : i + 1 + (n - i) ≡ n + 1 = omega arith in
+    let k : i + (n - i) ≡ n = omega arith in
+    let A = take (i + 1) xs in
+    let B = take (n - i) (drop i xs) in
+    let C = drop (n + 1) xs in
+    let la : length A ≡ i + 1 = length-take-le (i + 1) xs (omega arith) in
+    let all : ys ≡ A ++ (B ++ C) = sym (take-append-drop (i + 1 + (n - i)) ys) ∙ ap (λ l. l ++ drop (i + 1 + (n - i)) ys) c.front ∙ ap (λ l. (A ++ B) ++ l) (c.behind ∙ ap (λ (j : ℕ). drop j xs) m) ∙ append_assoc A B C in
+    let front : take i ys ≡ take i xs = ap (take i) all ∙ take-append-le i A (B ++ C) (omega arith) ∙ take-take i (i + 1) xs (omega arith) in
+    let back : drop (i + 1) ys ≡ B ++ C = ap (drop (i + 1)) all ∙ drop_at A (B ++ C) (i + 1) la in
+    let before : take i (take n xs) ≡ take i xs = take-take i n xs le in
+    let behind : drop i (take n xs) ≡ B = ap (λ (j : ℕ). drop i (take j xs)) (sym k) ∙ drop-take i (n - i) xs in
+    sym (take-append-drop (i + 1) (set ys i x))
+    ∙ ap (λ l. l ++ drop (i + 1) (set ys i x)) (take_more_set ys i x (omega arith))
+    ∙ ap (λ l. (take i ys ++ x ∷ []) ++ l) (drop-set-lt (i + 1) ys i x (omega arith) ∙ back)
+    ∙ ap (λ l. (l ++ x ∷ []) ++ (B ++ C)) front
+    ∙ append_assoc (take i xs) (x ∷ []) (B ++ C)
+    ∙ sym (append_assoc (take i xs) (x ∷ B) C)
+    ∙ ap (λ l. (l ++ x ∷ B) ++ C) (sym before)
+    ∙ ap (λ l. (take i (take n xs) ++ x ∷ l) ++ C) (sym behind)
 
-behind_in : {X : Type 0} (xs : List X) (i n : ℕ) (x : X) → i ≤ n → n ≤ length xs → drop (suc n) (put_in i x xs) ≡ drop n xs
-behind_in xs zero n x le h = refl
-behind_in xs (suc i) zero x le h = absurd (omega arith)
-behind_in [] (suc i) (suc n) x le h = absurd (omega arith)
-behind_in (y ∷ ys) (suc i) (suc n) x le h = behind_in ys i n x (omega arith) (omega arith)
-
-pub all_carried : {X : Type 0} (xs ys : List X) (i n k : ℕ) (x y : X) → i ≤ n → n < length xs → length ys ≡ length xs → k ≡ n → put_in k y ys ≡ put_in i x xs → set ys n y ≡ put_in i x (take n xs) ++ drop (n + 1) xs
-all_carried xs ys i n k x y le h same e p =
-    let q : put_in n y ys ≡ put_in i x xs = ap (λ (j : ℕ). put_in j y ys) (sym e) ∙ p in
-    let m : suc n ≡ n + 1 = omega arith in
-    last_carried ys n y (omega arith)
-    ∙ ap (λ l. take (suc n) l ++ drop (suc (suc n)) l) q
-    ∙ ap (λ l. l ++ drop (suc (suc n)) (put_in i x xs)) (records_in xs i n x le (omega arith))
-    ∙ ap (λ l. put_in i x (take n xs) ++ l) (behind_in xs i (suc n) x (omega arith) (omega arith))
-    ∙ ap (λ (j : ℕ). put_in i x (take n xs) ++ drop j xs) m
-
--- the record at i is written at k: the gap from k up to i has moved one back
-moved_up : {X : Type 0} (xs : List X) (k i : ℕ) (d : X) → k ≤ i → i < length xs → taken_out (suc k) (suc i) (set xs k (get_or xs i d)) ≡ taken_out k i xs
-moved_up [] k i d le h = absurd (omega arith)
-moved_up (y ∷ ys) zero zero d le h = refl
-moved_up (y ∷ ys) zero (suc i) d le h =
-    let n : i + 1 ≡ suc i = omega arith in
-    sym (drop_more ys i d (omega arith) ∙ ap (λ (j : ℕ). get_or ys i d ∷ drop j ys) n)
-moved_up (y ∷ ys) (suc k) zero d le h = absurd (omega arith)
-moved_up (y ∷ ys) (suc k) (suc i) d le h = ap (λ l. y ∷ l) (moved_up ys k i d (omega arith) (omega arith))
-
-pub one_up : {X : Type 0} (xs zs : List X) (k i : ℕ) (x : X) → k ≤ i → i < length xs → x ≡ get_or xs i x → taken_out k i xs ≡ zs → taken_out (k + 1) (i + 1) (set xs k x) ≡ zs
-one_up xs zs k i x le h is p =
-    let m : k + 1 ≡ suc k = omega arith in
-    let n : i + 1 ≡ suc i = omega arith in
-    ap (λ (j : ℕ). taken_out j (i + 1) (set xs k x)) m
-    ∙ ap (λ (j : ℕ). taken_out (suc k) j (set xs k x)) n
-    ∙ ap (λ y. taken_out (suc k) (suc i) (set xs k y)) is
-    ∙ moved_up xs k i x le h ∙ p
+-- the records from `to` up to n move up to `from`: the gap from there on has moved to the end
+pub moved_up : {X : Type 0} (xs ys : List X) (from to n : ℕ) → from ≤ to → to ≤ n → n ≤ length xs → ys ≡ copy_within xs to n from → taken_out (n - (to - from)) n ys ≡ taken_out from to xs
+moved_up xs ys from to n ft tn h e =
+    let c = copied xs ys to n from tn h (omega arith) e in
+    let k : from + (n - to) ≡ n - (to - from) = omega arith in
+    let m : to + (n - to) ≡ n = omega arith in
+    let o : from + (n - to) + (to - from) ≡ n = omega arith in
+    let last : drop n ys ≡ drop n xs =
+    ap (λ (j : ℕ). drop j ys) (sym o) ∙ sym (drop-drop (to - from) (from + (n - to)) ys) ∙ ap (drop (to - from)) c.behind ∙ drop-drop (to - from) (from + (n - to)) xs ∙ ap (λ (j : ℕ). drop j xs) o in
+    ap (λ (j : ℕ). take j ys ++ drop n ys) (sym k)
+    ∙ ap (λ l. l ++ drop n ys) c.front
+    ∙ ap (λ l. (take from xs ++ take (n - to) (drop to xs)) ++ l) last
+    ∙ append_assoc (take from xs) (take (n - to) (drop to xs)) (drop n xs)
+    ∙ ap (λ l. take from xs ++ (take (n - to) (drop to xs) ++ l)) (sym (drop-drop (n - to) to xs ∙ ap (λ (j : ℕ). drop j xs) (omega arith)))
+    ∙ ap (λ l. take from xs ++ l) (take-append-drop (n - to) (drop to xs))
 
 -- a run of places that is written over
 pub over_run : {X : Type 0} (xs ys : List X) (k n : ℕ) → k ≤ n → put_mid k (n - k) xs ys ≡ take k xs ++ (ys ++ drop n xs)
@@ -112,21 +111,3 @@ run_out xs ys zs from to n k b ft tn h same e p q =
     ∙ ap (λ l. l ++ (replicate (n - k) b ++ drop n ys)) front
     ∙ ap (λ l. out ++ (replicate (n - k) b ++ l)) back
     ∙ ap (λ (j : ℕ). out ++ (replicate j b ++ drop n xs)) m
-
--- all records have been tested, and the places that they left are blanked
-pub record Kept {X : Type 0} (test : X → Bool) (b : X) (xs ys : List X) (n k : ℕ) : Type 0 where
-  pub within : k ≤ n
-  pub count : k ≡ length (filter test (take n xs))
-  pub after : ys ≡ filter test (take n xs) ++ (replicate (n - k) b ++ drop n xs)
-
-pub all_kept : {X : Type 0} (test : X → Bool) (b : X) (xs ys zs : List X) (n k i : ℕ) → n ≤ length xs → i ≡ n → FiltersInPlace test xs ys k i → zs ≡ replicate (length (between k n ys)) b → Kept test b xs (put_mid k (n - k) ys zs) n k
-all_kept test b xs ys zs n k i h e g q =
-    let front : take k ys ≡ filter test (take n xs) = g.front ∙ ap (λ (j : ℕ). filter test (take j xs)) e in
-    let back : drop n ys ≡ drop n xs = ap (λ (j : ℕ). drop j ys) (sym e) ∙ g.rest ∙ ap (λ (j : ℕ). drop j xs) e in
-    let long = g.long in
-    let behind = g.behind in
-    record {
-      within = omega arith;
-      count = sym (length-take-le k ys (omega arith)) ∙ ap length front;
-      after = blanked ys zs k n b (omega arith) (omega arith) q ∙ ap (λ l. l ++ (replicate (n - k) b ++ drop n ys)) front ∙ ap (λ l. filter test (take n xs) ++ (replicate (n - k) b ++ l)) back;
-    }

@@ -3,13 +3,13 @@
 
 mod blank;
 mod lined;
-mod moves;
 mod placed;
+mod sift;
 mod table;
 
 pub use blank::Blank;
-pub use lined::Run;
-pub use placed::{Keeps, Placed, places_are_total};
+pub use lined::Line;
+pub use placed::{Placed, places_are_total};
 pub use table::Table;
 
 #[cfg(test)]

@@ -1,154 +1,133 @@
-// A lent table whose records are kept in line, and one to which records are only added.
-ghost use Rattle.std.specs.Prelude.{◌≡◌, ◌+◌, ◌-◌, ◌<◌, ◌≤◌, false, [], ◌∷◌, ◌++◌, length, take, drop, Decides, filter, slice_index_or, slice_set};
+// A lent table whose records are kept in line.
+ghost use Rattle.std.specs.Prelude.{◌≡◌, ◌+◌, ◌-◌, ◌<◌, ◌≤◌, Bool, true, false, [], length, take, drop, Decides, filter, slice_index_or, slice_set};
+ghost use Rattle.std.specs.Fn.{CalledAt};
+ghost use Rattle.std.specs.List.Retain.{IsFiltered};
 ghost use Rattle.line.specs.Places.{ahead};
-ghost use Rattle.line.specs.Lines.{Free, spot, entered, taken_out, lies_between};
-ghost use Rattle.line.specs.Tables.{records, whole, Within, Cleared, Room, Sound};
+ghost use Rattle.line.specs.Lines.{Free, in_line, spot, entered, taken_out, lies_between};
+ghost use Rattle.line.specs.Tables.{records, whole, held, places, all_blank, Cleared, Room, StaysLent};
 
-use crate::blank::Blank;
-use crate::moves::{close, find, insert, sift};
-use crate::placed::{Keeps, Placed};
+use crate::placed::Placed;
 use crate::table::Table;
+use std::ops::Range;
 
-// The records of a table from one index up to another.
-#[derive(Clone, Copy)]
-pub struct Run {
-    pub from: usize,
-    pub to: usize,
+#[derive(Drop)]
+pub struct Line<'a, T: Placed> {
+    pub table: Table<'a, T>,
+    ghost lined: { in_line T.place (records table) ≡ true },
 }
 
-impl<T: Blank> Table<'_, T> {
-    // The record at the index.
-    pub fn at(&self, index: usize) -> T
-        requires within { Within self.now }
-        requires there { index < self.now.used }
-        ensures { result ≡ slice_index_or (records self.now) index T.blank }
+impl<'a, T: Placed> Line<'a, T> {
+    // Takes the places as they are, with no record in them.
+    pub fn lent(places: &'a mut [T]) -> Line<'a, T>
+        ensures same { result.table.places.ghost_name ≡ places.entry.ghost_name }
+        ensures untouched { whole result.table ≡ places.old }
+        ensures unused { result.table.used ≡ 0 }
     {
-        self.records()[index]
-    }
-
-    // Adds the record behind the others.
-    pub fn push(&mut self, x: T)
-        requires cleared { Cleared T.blank self.old }
-        requires room { Room self.old }
-        ensures same { self.new.places.ghost_name ≡ self.old.places.ghost_name }
-        ensures used { self.new.used ≡ self.old.used + 1 }
-        ensures length { length (whole self.new) ≡ length (whole self.old) }
-        ensures records { records self.new ≡ records self.old ++ x ∷ [] }
-        ensures within { Within self.new }
-        ensures cleared { Cleared T.blank self.new }
-    {
-        let used = self.used;
-        self.places[used] = x;
-        self.used = used + 1;
+        Line {
+            table: Table::lent(places),
+        }
     }
 }
 
-impl<T: Placed> Table<'_, T> {
+impl<T: Placed> Line<'_, T> {
+    // The records in use, in line.
+    pub fn records(&self) -> &[T]
+        ensures { result.now ≡ records self.now.table }
+    {
+        self.table.records()
+    }
+
+    // Blanks every place, and takes all records out.
+    pub fn clear(&mut self)
+        ensures same { self.new.table.places.ghost_name ≡ self.old.table.places.ghost_name }
+        ensures used { self.new.table.used ≡ 0 }
+        ensures holds { held self.new.table ≡ all_blank T.Blank.blank 0 (places (held self.old.table)) }
+        ensures cleared { Cleared T.Blank.blank self.new.table }
+    {
+        self.table.clear(0);
+    }
+
     // How many records come before the key.
     pub fn spot(&self, key: &T) -> usize
-        requires { Sound T.place T.Blank.blank self.now }
-        ensures within { result ≤ self.now.used }
-        ensures spot { result ≡ spot T.place (T.place key.now) (records self.now) }
+        ensures within { result ≤ self.now.table.used }
+        ensures spot { result ≡ spot T.place (T.place key.now) (records self.now.table) }
     {
-        find(self.records(), key)
+        self.records().partition_point(|x| x.before(key))
     }
 
-    // The records that do not come before `first`, and that come before `beyond`.
-    pub fn run(&self, first: &T, beyond: &T) -> Run
-        requires { Sound T.place T.Blank.blank self.now }
-        ensures from { result.from ≡ spot T.place (T.place first.now) (records self.now) }
-        ensures to { result.to ≡ spot T.place (T.place beyond.now) (records self.now) }
-        ensures within { result.to ≤ self.now.used }
-        ensures order { ahead (T.place beyond.now) (T.place first.now) ≡ false → result.from ≤ result.to }
-        ensures records { drop result.from (take result.to (records self.now)) ≡ filter (lies_between T.place (T.place first.now) (T.place beyond.now)) (records self.now) }
+    // The indices of the records that do not come before `first`, and that come before `beyond`.
+    pub fn run(&self, first: &T, beyond: &T) -> Range<usize>
+        ensures from { result.start ≡ spot T.place (T.place first.now) (records self.now.table) }
+        ensures to { result.end ≡ spot T.place (T.place beyond.now) (records self.now.table) }
+        ensures within { result.end ≤ self.now.table.used }
+        ensures order { ahead (T.place beyond.now) (T.place first.now) ≡ false → result.start ≤ result.end }
+        ensures records { drop result.start (take result.end (records self.now.table)) ≡ filter (lies_between T.place (T.place first.now) (T.place beyond.now)) (records self.now.table) }
     {
-        let line = self.records();
-        Run {
-            from: find(line, first),
-            to: find(line, beyond),
-        }
+        self.spot(first)..self.spot(beyond)
     }
 
     // Whether no record has the place of `x`.
     pub fn free(&self, x: &T) -> bool
-        requires { Sound T.place T.Blank.blank self.now }
-        ensures { Decides result (Free T.place x.now (records self.now)) }
+        ensures { Decides result (Free T.place x.now (records self.now.table)) }
     {
-        let line = self.records();
-        let index = find(line, x);
-        index == line.len() || x.before(&line[index])
+        match self.records().get(self.spot(x)) {
+            Some(next) => x.before(next),
+            None => true,
+        }
     }
 
     // Puts the record where it belongs.
     pub fn put(&mut self, x: T)
-        requires sound { Sound T.place T.Blank.blank self.old }
-        requires room { Room self.old }
-        requires free { Free T.place x (records self.old) }
-        ensures same { self.new.places.ghost_name ≡ self.old.places.ghost_name }
-        ensures used { self.new.used ≡ self.old.used + 1 }
-        ensures length { length (whole self.new) ≡ length (whole self.old) }
-        ensures records { records self.new ≡ entered T.place x (records self.old) }
-        ensures sound { Sound T.place T.Blank.blank self.new }
+        requires room { Room self.old.table }
+        requires free { Free T.place x (records self.old.table) }
+        ensures lent { StaysLent T.Blank.blank self.old.table self.new.table }
+        ensures used { self.new.table.used ≡ self.old.table.used + 1 }
+        ensures records { records self.new.table ≡ entered T.place x (records self.old.table) }
     {
-        let used = self.used;
         let index = self.spot(&x);
-        insert(self.places, used, index, x);
-        self.used = used + 1;
+        self.table.insert(index, x);
     }
 
     // Takes the record at the index out.
     pub fn cut(&mut self, index: usize)
-        requires sound { Sound T.place T.Blank.blank self.old }
-        requires there { index < self.old.used }
-        ensures same { self.new.places.ghost_name ≡ self.old.places.ghost_name }
-        ensures used { self.new.used + 1 ≡ self.old.used }
-        ensures length { length (whole self.new) ≡ length (whole self.old) }
-        ensures records { records self.new ≡ taken_out index (index + 1) (records self.old) }
-        ensures sound { Sound T.place T.Blank.blank self.new }
+        requires { index < self.old.table.used }
+        ensures lent { StaysLent T.Blank.blank self.old.table self.new.table }
+        ensures used { self.new.table.used + 1 ≡ self.old.table.used }
+        ensures records { records self.new.table ≡ taken_out index (index + 1) (records self.old.table) }
     {
-        self.cut_run(index, index + 1);
+        prove!(index < self.table.used);
+        self.cut_run(index..index + 1);
     }
 
-    // Takes the records from `from` up to `to` out.
-    pub fn cut_run(&mut self, from: usize, to: usize)
-        requires sound { Sound T.place T.Blank.blank self.old }
-        requires order { from ≤ to }
-        requires there { to ≤ self.old.used }
-        ensures same { self.new.places.ghost_name ≡ self.old.places.ghost_name }
-        ensures used { self.new.used + (to - from) ≡ self.old.used }
-        ensures length { length (whole self.new) ≡ length (whole self.old) }
-        ensures records { records self.new ≡ taken_out from to (records self.old) }
-        ensures sound { Sound T.place T.Blank.blank self.new }
+    // Takes the records of a run of indices out.
+    pub fn cut_run(&mut self, run: Range<usize>)
+        requires order { run.start ≤ run.end }
+        requires there { run.end ≤ self.old.table.used }
+        ensures lent { StaysLent T.Blank.blank self.old.table self.new.table }
+        ensures used { self.new.table.used + (run.end - run.start) ≡ self.old.table.used }
+        ensures records { records self.new.table ≡ taken_out run.start run.end (records self.old.table) }
     {
-        let used = self.used;
-        close(self.places, used, from, to);
-        self.used = used - (to - from);
+        self.table.remove_run(run);
     }
 
     // Writes over the record at the index one that has its place.
     pub fn amend(&mut self, index: usize, x: T)
-        requires sound { Sound T.place T.Blank.blank self.old }
-        requires there { index < self.old.used }
-        requires place { T.place x ≡ T.place (slice_index_or (records self.old) index T.Blank.blank) }
-        ensures same { self.new.places.ghost_name ≡ self.old.places.ghost_name }
-        ensures used { self.new.used ≡ self.old.used }
-        ensures length { length (whole self.new) ≡ length (whole self.old) }
-        ensures records { records self.new ≡ slice_set (records self.old) index x }
-        ensures sound { Sound T.place T.Blank.blank self.new }
+        requires there { index < self.old.table.used }
+        requires place { T.place x ≡ T.place (slice_index_or (records self.old.table) index T.Blank.blank) }
+        ensures lent { StaysLent T.Blank.blank self.old.table self.new.table }
+        ensures used { self.new.table.used ≡ self.old.table.used }
+        ensures records { records self.new.table ≡ slice_set (records self.old.table) index x }
     {
-        self.places[index] = x;
+        self.table.set(index, x);
     }
 
     // Keeps the records that pass the test, and takes the others out.
-    pub fn keep<K: Keeps<T>>(&mut self, test: &K)
-        requires { Sound T.place T.Blank.blank self.old }
-        ensures same { self.new.places.ghost_name ≡ self.old.places.ghost_name }
-        ensures used { self.new.used ≡ length (filter (K.keeps test.now) (records self.old)) }
-        ensures length { length (whole self.new) ≡ length (whole self.old) }
-        ensures records { records self.new ≡ filter (K.keeps test.now) (records self.old) }
-        ensures sound { Sound T.place T.Blank.blank self.new }
+    pub fn keep<F: FnMut(&T) -> bool>(&mut self, test: F)
+        requires { F.IsAlwaysCallable test }
+        ensures lent { StaysLent T.Blank.blank self.old.table self.new.table }
+        ensures used { self.new.table.used ≤ self.old.table.used }
+        ensures records { IsFiltered (CalledAt F.FnMut) test (records self.old.table) (records self.new.table) }
     {
-        let used = self.used;
-        self.used = sift(self.places, used, test);
+        self.table.retain(test);
     }
 }

@@ -1,5 +1,5 @@
-// Records with a place in line, and tests of records.
-ghost use Rattle.std.specs.Prelude.{◌≡◌, Bool, List};
+// Records with a place in line.
+ghost use Rattle.std.specs.Prelude.{◌≡◌, List};
 ghost use Rattle.line.specs.Places.{Rank, ahead, Total};
 
 use crate::blank::Blank;
@@ -11,15 +11,6 @@ pub trait Placed: Blank {
     // Whether this record comes before the other.
     fn before(&self, other: &Self) -> bool
         ensures { result ≡ ahead (place self.now) (place other.now) };
-}
-
-// A test of records.
-pub trait Keeps<T> {
-    ghost keeps: { Self → T → Bool };
-
-    // Whether the record passes.
-    fn keep(&self, x: &T) -> bool
-        ensures { result ≡ keeps self.now x.now };
 }
 
 // Carries the laws of the order on places; it does nothing else.

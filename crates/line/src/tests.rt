@@ -1,11 +1,12 @@
 // Tables of tickets: the higher price stands first, and of one price the lower number.
-ghost use Rattle.std.specs.Prelude.{not, [], ◌∷◌, ◌==◌};
+ghost use Rattle.std.specs.Prelude.{[], ◌∷◌};
 ghost use Rattle.line.specs.Places.{rising, falling};
-ghost use Rattle.line.specs.Tables.{Sound};
+ghost use Rattle.std.proofs.Common.{rules};
 
-use crate::{Blank, Keeps, Placed, Table};
+use crate::{Blank, Line, Placed, Table};
+use std::cmp::Reverse;
 
-#[derive(Clone, Copy)]
+#[derive(Clone, Copy, Default)]
 struct Ticket {
     price: u32,
     number: u32,
@@ -14,46 +15,24 @@ struct Ticket {
 impl Blank for Ticket {
     ghost blank = { record { price = 0; number = 0 } };
 
-    fn empty() -> Ticket {
-        Ticket {
-            price: 0,
-            number: 0,
-        }
-    }
+    ghost one_default = { Prim.search rules };
+
+    ghost copies = { Prim.search rules };
+
+    ghost can_copy = { Prim.search rules };
 }
 
 impl Placed for Ticket {
     ghost place = { λ t. falling t.price ∷ rising t.number ∷ [] };
 
     fn before(&self, other: &Ticket) -> bool {
-        if self.price != other.price {
-            self.price > other.price
-        } else {
-            self.number < other.number
-        }
-    }
-}
-
-// Passes the tickets of all prices but one.
-#[derive(Drop)]
-struct Other {
-    price: u32,
-}
-
-impl Keeps<Ticket> for Other {
-    ghost keeps = { λ t x. not (x.price == t.price) };
-
-    fn keep(&self, x: &Ticket) -> bool {
-        x.price != self.price
+        (Reverse(self.price), self.number) < (Reverse(other.price), other.number)
     }
 }
 
 // Enters the record where there is room and its place is free.
-fn enter<T: Placed>(line: &mut Table<'_, T>, x: T) -> bool
-    requires { Sound T.place T.Blank.blank line.old }
-    ensures { Sound T.place T.Blank.blank line.new }
-{
-    if line.used < line.places.len() && line.free(&x) {
+fn enter<T: Placed>(line: &mut Line<'_, T>, x: T) -> bool {
+    if !line.table.is_full() && line.free(&x) {
         line.put(x);
         true
     } else {
@@ -62,17 +41,15 @@ fn enter<T: Placed>(line: &mut Table<'_, T>, x: T) -> bool
 }
 
 // Empties the table, and enters three records.
-fn enter_three<T: Placed>(line: &mut Table<'_, T>, a: T, b: T, c: T) -> bool
-    ensures { Sound T.place T.Blank.blank line.new }
-{
-    line.clear(0);
+fn enter_three<T: Placed>(line: &mut Line<'_, T>, a: T, b: T, c: T) -> bool {
+    line.clear();
     enter(line, a) && enter(line, b) && enter(line, c)
 }
 
 #[test]
 fn stands_in_line(rt: HostRuntime) {
-    let mut places = [<Ticket as Blank>::empty(); 4];
-    let mut line = Table::lent(&mut places);
+    let mut places = [Ticket::default(); 4];
+    let mut line = Line::lent(&mut places);
     let last = Ticket {
         price: 20,
         number: 2,
@@ -91,18 +68,18 @@ fn stands_in_line(rt: HostRuntime) {
             },
         )
     );
-    assert!(rt; line.used == 3);
-    assert!(rt; line.at(0).number == 3);
-    assert!(rt; line.at(1).number == 1);
-    assert!(rt; line.at(2).number == 2);
+    assert!(rt; line.table.used == 3);
+    assert!(rt; line.table.at(0).number == 3);
+    assert!(rt; line.table.at(1).number == 1);
+    assert!(rt; line.table.at(2).number == 2);
     assert!(rt; !line.free(&last));
     assert!(rt; line.spot(&last) == 2);
 }
 
 #[test]
 fn finds_a_run(rt: HostRuntime) {
-    let mut places = [<Ticket as Blank>::empty(); 4];
-    let mut line = Table::lent(&mut places);
+    let mut places = [Ticket::default(); 4];
+    let mut line = Line::lent(&mut places);
     assert!(rt;
         enter_three(
             &mut line,
@@ -129,14 +106,13 @@ fn finds_a_run(rt: HostRuntime) {
         number: 0,
     };
     let run = line.run(&first, &beyond);
-    assert!(rt; run.from == 1);
-    assert!(rt; run.to == 3);
+    assert_eq!(rt; run, 1..3);
 }
 
 #[test]
 fn leaves_the_line(rt: HostRuntime) {
-    let mut places = [<Ticket as Blank>::empty(); 4];
-    let mut line = Table::lent(&mut places);
+    let mut places = [Ticket::default(); 4];
+    let mut line = Line::lent(&mut places);
     assert!(rt;
         enter_three(
             &mut line,
@@ -154,14 +130,13 @@ fn leaves_the_line(rt: HostRuntime) {
             },
         )
     );
-    assert!(rt; line.used == 3);
+    assert!(rt; line.table.used == 3);
     line.cut(1);
-    assert!(rt; line.used == 2);
-    assert!(rt; line.at(1).number == 1);
-    let test = Other { price: 20 };
-    line.keep(&test);
-    assert!(rt; line.used == 1);
-    assert!(rt; line.at(0).number == 3);
+    assert!(rt; line.table.used == 2);
+    assert!(rt; line.table.at(1).number == 1);
+    line.keep(|ticket| ticket.price != 20);
+    assert!(rt; line.table.used == 1);
+    assert!(rt; line.table.at(0).number == 3);
 }
 
 #[test]
