@@ -7,3 +7,4 @@ pub mod Places
 pub mod Records
 pub mod Refusals
 pub mod States
+pub mod Words

@@ -1,7 +1,9 @@
 // The contracts of a house by month, quarter and year, the months that each covers, and their gas days.
-ghost use Rattle.std.specs.Prelude.{◌≡◌, ◌<◌};
-ghost use Rattle.market.specs.Calendar.{among, index, contract_number, contract_of, slot, is_month, first_month, month_count, covers, part_count, part, capped, quarter_of, year_of, year_of_quarter, leap, days_in_month, month_days, gas_days};
+ghost use Rattle.std.specs.Prelude.{◌≡◌, ◌+◌, ◌*◌, ◌<◌, ◌≤◌};
+ghost use Rattle.market.specs.Calendar.{index, contract_number, contract_of, contract_at, slot, is_month, first_month, month_count, covers, part_count, part, capped, quarter_of, year_of, year_of_quarter, leap, days_in_month, month_days, gas_days};
 ghost use Rattle.market.specs.CalendarLaws.{CalendarLaws, CalendarFigures};
+
+use std::ops::Range;
 
 pub const MONTHS_A_YEAR: u8 = 12;
 
@@ -17,6 +19,9 @@ pub const FIRST_YEAR_NUMBER: u8 = 200;
 // Slots of a year's months and quarters, which come before those of the years.
 const SLOTS_BEFORE_YEARS: usize = 16;
 
+// Slots of a year's months and quarters and of the year itself.
+const SLOTS_A_YEAR: usize = 17;
+
 // Each holds its index, which counts from 0 at January, the first quarter or the whole of the house's first year.
 #[derive(Clone, Copy, PartialEq, Eq, Debug)]
 pub enum Contract {
@@ -25,34 +30,64 @@ pub enum Contract {
     Year(u8),
 }
 
-impl Contract {
-    // The contract of this number in a house of so many years, if there is one.
-    pub fn of(number: u8, years: u8) -> Option<Contract>
-        ensures { result ≡ contract_of number years }
-    {
-        let months = u16::from(MONTHS_A_YEAR) * u16::from(years);
-        let quarters = u16::from(QUARTERS_A_YEAR) * u16::from(years);
-        let wide = u16::from(number);
-        if is_among(0, months, wide) {
-            return Some(Contract::Month(number));
-        }
-        if is_among(u16::from(FIRST_QUARTER_NUMBER), quarters, wide) {
-            return Some(Contract::Quarter(number - FIRST_QUARTER_NUMBER));
-        }
-        if is_among(u16::from(FIRST_YEAR_NUMBER), u16::from(years), wide) {
-            return Some(Contract::Year(number - FIRST_YEAR_NUMBER));
-        }
-        None
-    }
+// The number that stands for the contract in a script and in a print.
+impl From<Contract> for u16 {
+    ghost from_gives = { λ contract n. n ≡ contract_number contract };
 
-    // The number that stands for the contract in a script and in a print.
-    pub fn number(self) -> u16
-        ensures { result ≡ contract_number self }
-    {
-        match self {
+    fn from(contract: Contract) -> u16 {
+        match contract {
             Contract::Month(month) => u16::from(month),
             Contract::Quarter(quarter) => u16::from(FIRST_QUARTER_NUMBER) + u16::from(quarter),
             Contract::Year(year) => u16::from(FIRST_YEAR_NUMBER) + u16::from(year),
+        }
+    }
+}
+
+impl Contract {
+    // How many contracts a house of so many years has, and each of its members results.
+    pub fn count(years: u8) -> usize
+        ensures { result ≡ 17 * years }
+    {
+        SLOTS_A_YEAR * usize::from(years)
+    }
+
+    // The contract of this number in a house of so many years, if there is one. No conversion of a number alone, since it takes the years.
+    #[tactic(auto, unfolding(crate::specs::Calendar::contract_of))]
+    pub fn of(number: u8, years: u8) -> Option<Contract>
+        ensures { result ≡ contract_of number years }
+    {
+        let first_quarter = u16::from(FIRST_QUARTER_NUMBER);
+        let first_year = u16::from(FIRST_YEAR_NUMBER);
+        let months = u16::from(MONTHS_A_YEAR) * u16::from(years);
+        let quarters = u16::from(QUARTERS_A_YEAR) * u16::from(years);
+        let wide = u16::from(number);
+        if (0..months).contains(&wide) {
+            Some(Contract::Month(number))
+        } else if (first_quarter..first_quarter + quarters).contains(&wide) {
+            Some(Contract::Quarter(number - FIRST_QUARTER_NUMBER))
+        } else if (first_year..first_year + u16::from(years)).contains(&wide) {
+            Some(Contract::Year(number - FIRST_YEAR_NUMBER))
+        } else {
+            None
+        }
+    }
+
+    // The contract of a slot, in a house of so many years.
+    #[tactic(auto, unfolding(crate::specs::Calendar::contract_at))]
+    pub fn at(slot: usize, years: u8) -> Contract
+        requires within { slot < 17 * years }
+        requires few { years ≤ 4 }
+        ensures { result ≡ contract_at years slot }
+    {
+        let months = MONTHS_A_YEAR * years;
+        let behind_quarters = months + QUARTERS_A_YEAR * years;
+        let at = slot as u8;
+        if at < months {
+            Contract::Month(at)
+        } else if at < behind_quarters {
+            Contract::Quarter(at - months)
+        } else {
+            Contract::Year(at - behind_quarters)
         }
     }
 
@@ -96,15 +131,20 @@ impl Contract {
         }
     }
 
+    // The months that it covers.
+    fn months(self) -> Range<u16>
+        ensures first { result.start ≡ first_month self }
+        ensures end { result.end ≡ first_month self + month_count self }
+    {
+        let first = self.first_month();
+        first..first + u16::from(self.month_count())
+    }
+
     // Whether it covers the month of this index.
     pub fn covers(self, month: u8) -> bool
         ensures { result ≡ covers self month }
     {
-        is_among(
-            self.first_month(),
-            u16::from(self.month_count()),
-            u16::from(month),
-        )
+        self.months().contains(&u16::from(month))
     }
 
     // How many parts it has: a year its quarters, a quarter its months.
@@ -134,6 +174,8 @@ impl Contract {
         }
     }
 
+    // What covers a month or a quarter: three words of the rules, each a line, that no parameter would make plainer.
+
     // The quarter that covers the month of this index.
     pub fn quarter_of(month: u8) -> Contract
         ensures { result ≡ quarter_of month }
@@ -159,30 +201,17 @@ impl Contract {
     pub fn gas_days(self, first_year: u16) -> u32
         ensures { result ≡ gas_days first_year self }
     {
-        let first = self.first_month();
-        let end = first + u16::from(self.month_count());
-        let mut days = 0;
-        for month in first..end {
-            days += month_days(first_year, month);
-        }
-        days
+        self.months()
+            .map(|month| month_days(first_year, month))
+            .sum()
     }
 }
 
 // The calendar of every house keeps its laws, and the gas days of 2025 and 2028 are the almanac's.
-pub fn calendar_laws_stand() -> u8
+pub fn calendar_laws_stand()
     ensures laws { CalendarLaws }
     ensures figures { CalendarFigures }
-{
-    0
-}
-
-// Whether n is one of so many numbers from the first on.
-fn is_among(first: u16, count: u16, n: u16) -> bool
-    ensures { result ≡ among first count n }
-{
-    first <= n && n - first < count
-}
+{}
 
 // The days of a month of a house, which begins in January of its first year.
 fn month_days(first_year: u16, month: u16) -> u32
@@ -197,7 +226,8 @@ fn days_in_month(year: u32, month: u16) -> u32
     ensures { result ≡ days_in_month year month }
 {
     match month {
-        1 => { if is_leap(year) { 29 } else { 28 } }
+        1 if is_leap(year) => 29,
+        1 => 28,
         3 | 5 | 8 | 10 => 30,
         _ => 31,
     }

@@ -1,7 +1,6 @@
 // The words that the whole house shares: sides and records, the calendar and its contracts, their states and price records, phases and events, refusals.
 #![tactic(auto)]
 
-mod blanks;
 pub mod calendar;
 pub mod opening;
 pub mod phase;

@@ -2,6 +2,7 @@
 ghost use Rattle.std.specs.Prelude.{◌≡◌, ◌≤◌};
 ghost use Rattle.std.specs.Option.{option_map};
 ghost use Rattle.market.specs.Opening.{accepted, in_band};
+ghost use Rattle.market.specs.declared.opening.TheConstants.{MAX_PRICE, MAX_RATE};
 
 // kuruş per thousand Sm³
 pub const MAX_PRICE: u32 = 4_000_000;
@@ -12,12 +13,12 @@ pub const MAX_RATE: u32 = 2_000;
 // A whole in hundredths of a percent.
 pub const WHOLE: u64 = 10_000;
 
-#[derive(Clone, Copy)]
+#[derive(Clone, Copy, PartialEq, Eq, Debug)]
 pub struct Opening {
     price: u32, // the latest base or announced price, kuruş per thousand Sm³
     rate: u16, // hundredths of a percent
-    ghost priced: { (1 ≤ price) × (price ≤ 4000000) },
-    ghost rated: { (1 ≤ rate) × (rate ≤ 2000) },
+    ghost priced: { (1 ≤ price) × (price ≤ MAX_PRICE) },
+    ghost rated: { (1 ≤ rate) × (rate ≤ MAX_RATE) },
 }
 
 impl Opening {
@@ -25,10 +26,7 @@ impl Opening {
     pub fn new(price: u32, rate: u32) -> Option<Opening>
         ensures { option_map (λ o. (o.price, o.rate)) result ≡ accepted price rate }
     {
-        if price < 1 || price > MAX_PRICE {
-            return None;
-        }
-        if rate < 1 || rate > MAX_RATE {
+        if !(1..=MAX_PRICE).contains(&price) || !(1..=MAX_RATE).contains(&rate) {
             return None;
         }
         Some(Opening {
@@ -37,7 +35,7 @@ impl Opening {
         })
     }
 
-    // What stands for the price record of a contract that was never listed.
+    // What stands for the price record of a contract that was never listed; no Default, since the name says that nobody set this price.
     pub fn placeholder() -> Opening
         ensures price { result.price ≡ 1 }
         ensures rate { result.rate ≡ 1 }

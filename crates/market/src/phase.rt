@@ -1,4 +1,8 @@
 // The phases of a gas day, and the events that a house takes or refuses in each.
+ghost use Rattle.std.specs.Prelude.{Some};
+ghost use Rattle.market.specs.Words.{phase_word};
+
+use std::fmt;
 
 #[derive(Clone, Copy, PartialEq, Eq, Debug)]
 pub enum Phase {
@@ -7,6 +11,20 @@ pub enum Phase {
     Morning,
     Session,
     PostSession,
+}
+
+impl fmt::Display for Phase {
+    ghost output = { λ phase. Some (phase_word phase) };
+
+    fn fmt<W: fmt::Write>(&self, f: &mut fmt::Formatter<W>) -> fmt::Result {
+        f.write_str(match self {
+            Phase::Unopened => "unopened",
+            Phase::Evening => "evening",
+            Phase::Morning => "morning",
+            Phase::Session => "session",
+            Phase::PostSession => "post",
+        })
+    }
 }
 
 #[derive(Clone, Copy, PartialEq, Eq, Debug)]

@@ -1,15 +1,28 @@
 // The records of the tables that the caller lends to the house.
 ghost use Rattle.std.specs.Prelude.{◌≡◌};
-ghost use Rattle.market.specs.Records.{side_number};
+ghost use Rattle.market.specs.Records.{side_number, no_order, no_lot, no_trade, no_call};
+ghost use Rattle.std.proofs.Common.{rules};
 
-#[derive(Clone, Copy, PartialEq, Eq, Debug)]
+use line::Blank;
+
+// The numbers stand for the sides in a script and in a print. No Option of two sides: a free place of a lent table is all zeros.
+#[derive(Clone, Copy, PartialEq, Eq, Default, Debug)]
 pub enum Side {
-    Free, // the side of a free place of a lent table
-    Buy,
-    Sell,
+    #[default]
+    Free = 0, // the side of a free place of a lent table
+    Buy = 1,
+    Sell = 2,
 }
 
-#[derive(Clone, Copy, PartialEq, Eq, Debug)]
+impl From<Side> for u8 {
+    ghost from_gives = { λ side n. n ≡ side_number side };
+
+    fn from(side: Side) -> u8 {
+        side as u8
+    }
+}
+
+#[derive(Clone, Copy, PartialEq, Eq, Default, Debug)]
 pub struct Order {
     pub number: u32,
     pub member: u8,
@@ -19,7 +32,17 @@ pub struct Order {
     pub price: u32, // kuruş per thousand Sm³
 }
 
-#[derive(Clone, Copy, PartialEq, Eq, Debug)]
+impl Blank for Order {
+    ghost blank = { no_order };
+
+    ghost one_default = { Prim.search rules };
+
+    ghost copies = { Prim.search rules };
+
+    ghost can_copy = { Prim.search rules };
+}
+
+#[derive(Clone, Copy, PartialEq, Eq, Default, Debug)]
 pub struct Lot {
     pub contract: u8,
     pub member: u8,
@@ -29,7 +52,17 @@ pub struct Lot {
     pub price: u32, // kuruş per thousand Sm³
 }
 
-#[derive(Clone, Copy, PartialEq, Eq, Debug)]
+impl Blank for Lot {
+    ghost blank = { no_lot };
+
+    ghost one_default = { Prim.search rules };
+
+    ghost copies = { Prim.search rules };
+
+    ghost can_copy = { Prim.search rules };
+}
+
+#[derive(Clone, Copy, PartialEq, Eq, Default, Debug)]
 pub struct Trade {
     pub contract: u8,
     pub buyer: u8,
@@ -38,22 +71,29 @@ pub struct Trade {
     pub price: u32, // kuruş per thousand Sm³
 }
 
+impl Blank for Trade {
+    ghost blank = { no_trade };
+
+    ghost one_default = { Prim.search rules };
+
+    ghost copies = { Prim.search rules };
+
+    ghost can_copy = { Prim.search rules };
+}
+
 // A member whose requirement exceeds its balance.
-#[derive(Clone, Copy, PartialEq, Eq, Debug)]
+#[derive(Clone, Copy, PartialEq, Eq, Default, Debug)]
 pub struct MarginCall {
     pub member: u8,
     pub shortfall: u64, // kuruş
 }
 
-impl Side {
-    // The number that stands for the side in a script and in a print.
-    pub fn number(self) -> u8
-        ensures { result ≡ side_number self }
-    {
-        match self {
-            Side::Free => 0,
-            Side::Buy => 1,
-            Side::Sell => 2,
-        }
-    }
+impl Blank for MarginCall {
+    ghost blank = { no_call };
+
+    ghost one_default = { Prim.search rules };
+
+    ghost copies = { Prim.search rules };
+
+    ghost can_copy = { Prim.search rules };
 }

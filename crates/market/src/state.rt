@@ -13,6 +13,7 @@ pub enum ContractState {
     Ended,
 }
 
+// Each is a word of the rules with its own definition. A comparison would be no plainer: two of them stand for two states.
 impl ContractState {
     pub fn is_unlisted(self) -> bool
         ensures { result ≡ is_unlisted self }

@@ -1,21 +1,21 @@
--- Each turn adds the days of one month; behind the last one, the sum is the gas days.
-use Rattle.std.proofs.Common.{◌≡◌, ◌+◌, ◌<◌, ◌≤◌, arith}
-use Rattle.market.specs.Calendar.{month_count}
-use Rattle.market.proofs.Days.{month_days_at_most, gas_days_are, one_more, none_to_come}
+-- The chain goes over the range of the months; their days are the gas days, of which there are few.
+use Rattle.std.proofs.Common.{◌≡◌, ◌-◌, refl, ◌∙◌, arith, rules}
+use Rattle.std.proofs.lemmas.Iterator.{YieldsList-from_range, YieldsList-from_map}
+use Rattle.std.proofs.lemmas.Iterator.Consumers.{sum_by_from_yields_List, fits_by_from_yields_list}
+use Rattle.market.specs.Calendar.{month_count, month_days}
+use Rattle.market.proofs.Days.{gas_days_at_most, range_days}
 use Rattle.market.proofs.calendar.Contract.gas_days.Goals as goal
 
-pub loop-month-preserved : goal.loop-month-preserved
-loop-month-preserved c =
-    let here = c.month_days-days.ensures in
-    let less : c.loop-month.month < c.first_month-first.result + c.from.result = omega arith in (
-      one_more _ _ _ _ _ _ here less c.loop-month.invariant.0,
-      omega (arith, here, month_days_at_most c.args.first_year c.loop-month.month),
-    )
+pub sum-requires-clause-fits : goal.sum-requires-clause-fits
+sum-requires-clause-fits c =
+    let count : c.months.result.end - c.months.result.start ≡ month_count c.args.self = omega arith in
+    fits_by_from_yields_list _ _ c.map.result _
+    (YieldsList-from_map _ (month_days c.args.first_year) (YieldsList-from_range c.months.result.start c.months.result.end _ c.map.ensures.source count) c.map.ensures.closure (λ x r q k. search rules))
+    (omega (arith, range_days c.args.first_year c.args.self _ _ c.months.ensures.first refl, gas_days_at_most c.args.first_year c.args.self))
 
 pub returns : goal.returns
 returns c =
-    let count : c.from.result ≡ month_count c.args.self = omega arith in
-    let over : c.first_month-first.result + c.from.result ≤ c.loop-month.month = omega arith in
-    let none = none_to_come c.args.first_year _ _ over in
-    let all = gas_days_are c.args.first_year c.args.self _ _ c.first_month-first.ensures count in
-    omega arith
+    let count : c.months.result.end - c.months.result.start ≡ month_count c.args.self = omega arith in
+    sum_by_from_yields_List _ _ c.map.result _ c.sum.ensures.ran
+    (YieldsList-from_map _ (month_days c.args.first_year) (YieldsList-from_range c.months.result.start c.months.result.end _ c.map.ensures.source count) c.map.ensures.closure (λ x r q k. search rules))
+    ∙ range_days c.args.first_year c.args.self _ _ c.months.ensures.first refl
