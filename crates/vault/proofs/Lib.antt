@@ -1,4 +1,2 @@
-pub mod Passing
 pub mod Clearing
 pub mod Postings
-pub mod Movements

@@ -1,6 +1,6 @@
 -- What a vault means: the balance of each account in kuruş, and the movements that it can still take.
 -- A movement is a credit or a debit of an amount on an account; a fault is the reason why one is refused.
-use Rattle.std.specs.Prelude.{◌≡◌, ℕ, ◌+◌, ◌-◌, ◌≤◌, Bool, false, ◌||◌, List, [], ◌∷◌, length, replicate, Some, None, Ok, Err, Option, Result, ◌==◌, nat_lt, slice_index, slice_set}
+use Rattle.std.specs.Prelude.{◌≡◌, ℕ, ◌+◌, ◌-◌, ◌≤◌, Bool, false, ◌||◌, List, [], ◌∷◌, length, replicate, Some, None, Ok, Err, Option, Result, ◌==◌, nat_lt, slice_index, slice_set, codes}
 use Rattle.vault.specs.declared.faults.Fault.{Fault}
 use Rattle.vault.specs.declared.faults.Fault.TheVariants.{Account, Amount, Full, Ceiling, Short}
 use Rattle.vault.specs.Checks.{first_that_holds}
@@ -18,6 +18,14 @@ number Full = 3
 number Ceiling = 4
 number Short = 5
 
+-- the words in which a fault is told
+abbrev pub phrase : Fault → List ℕ
+phrase Account = codes "no such account"
+phrase Amount = codes "amount is nothing, or above the ceiling"
+phrase Full = codes "no movement left"
+phrase Ceiling = codes "credit passes the ceiling"
+phrase Short = codes "debit exceeds the balance"
+
 -- kuruş: no balance and no amount is above it
 abbrev pub ceiling : ℕ
 ceiling = 100000000000000000
@@ -30,6 +38,10 @@ balance c a = slice_index c.balances a
 pub record Whole (c : Cash) : Type 0 where
   pub accounts : length c.balances ≡ 64
   pub low : (a : ℕ) → balance c a ≤ ceiling
+
+-- these balances, and these movements left
+abbrev pub cash_of : List ℕ → Option ℕ → Cash
+cash_of bs left = record { balances = bs; left = left }
 
 -- no movement is left
 abbrev pub full : Option ℕ → Bool

@@ -1,5 +1,5 @@
 // A line of a journal.
-#[derive(Clone, Copy, PartialEq, Eq, Debug)]
+#[derive(Clone, Copy, PartialEq, Eq, Hash, Default, Debug)]
 pub struct Entry {
     pub account: u8,
     // kuruş: above zero for a credit, below zero for a debit

@@ -1,31 +1,44 @@
 // Why a vault refuses a movement.
-ghost use Rattle.std.specs.Prelude.{◌≡◌};
-ghost use Rattle.vault.specs.Cash.{number};
+ghost use Rattle.std.specs.Prelude.{◌≡◌, Some};
+ghost use Rattle.vault.specs.Cash.{number, phrase};
 
-#[derive(Clone, Copy, PartialEq, Eq, Debug)]
+use std::error::Error;
+use std::fmt;
+
+#[derive(Clone, Copy, PartialEq, Eq, Hash, Debug)]
 pub enum Fault {
     // the vault has no such account
-    Account,
+    Account = 1,
     // the amount is nothing, or above the ceiling
-    Amount,
+    Amount = 2,
     // the vault takes no more movements
-    Full,
+    Full = 3,
     // a credit would pass the ceiling
-    Ceiling,
+    Ceiling = 4,
     // a debit exceeds the balance
-    Short,
+    Short = 5,
 }
 
-impl Fault {
-    pub fn number(self) -> u8
-        ensures { result ≡ number self }
-    {
+impl From<Fault> for u8 {
+    ghost from_gives = { λ fault n. n ≡ number fault };
+
+    fn from(fault: Fault) -> u8 {
+        fault as u8
+    }
+}
+
+impl fmt::Display for Fault {
+    ghost output = { λ fault. Some (phrase fault) };
+
+    fn fmt<W: fmt::Write>(&self, f: &mut fmt::Formatter<W>) -> fmt::Result {
         match self {
-            Fault::Account => 1,
-            Fault::Amount => 2,
-            Fault::Full => 3,
-            Fault::Ceiling => 4,
-            Fault::Short => 5,
+            Fault::Account => f.write_str("no such account"),
+            Fault::Amount => f.write_str("amount is nothing, or above the ceiling"),
+            Fault::Full => f.write_str("no movement left"),
+            Fault::Ceiling => f.write_str("credit passes the ceiling"),
+            Fault::Short => f.write_str("debit exceeds the balance"),
         }
     }
 }
+
+impl Error for Fault {}

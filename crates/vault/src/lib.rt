@@ -1,10 +1,10 @@
 // Vaults: a balance for each of 64 accounts, and the movements that a vault can still take.
 #![tactic(auto)]
 
-mod admission;
 pub mod entries;
 pub mod faults;
 pub mod meaning;
+mod movements;
 pub mod posting;
 pub mod table;
 

@@ -13,10 +13,6 @@ pub const ACCOUNTS: usize = 64;
 pub trait Vault {
     ghost cash: { Self → Cash };
 
-    // What every vault keeps: called where a caller leans on it.
-    fn sound(&self)
-        ensures { Whole (cash self.now) };
-
     // kuruş
     fn balance(&self, account: u8) -> u64
         ensures { result ≡ balance (cash self.now) account };
@@ -32,4 +28,7 @@ pub trait Vault {
     // amount in kuruş
     fn debit(&mut self, account: u8, amount: u64) -> Result<(), Fault>
         ensures moves { outcome result (cash self.new) ≡ debited (cash self.old) account amount };
+
+    // what every vault keeps
+    ghost whole: { (v : Self) → Whole (cash v) };
 }

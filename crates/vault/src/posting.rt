@@ -1,31 +1,36 @@
 // A vault that is a journal: each movement is written into a list that the caller lends, in the order taken.
-ghost use Rattle.std.specs.Prelude.{◌≡◌, ◌≤◌, length, take};
-ghost use Rattle.vault.specs.Cash.{outcome, credited, debited};
-ghost use Rattle.vault.specs.Entries.{places, cleared, credit_entry, debit_entry, posted, counted, balances_of, meant, opened_journal, Sums, Free};
+ghost use Rattle.std.specs.Prelude.{◌≡◌, ◌≤◌, take};
+ghost use Rattle.std.proofs.Common.{rules};
+ghost use Rattle.vault.specs.Cash.{credited, debited};
+ghost use Rattle.vault.specs.Entries.{places, cleared, credit_entry, debit_entry, balances_of, meant, opened_journal, Sums, Free};
+ghost use Rattle.vault.specs.Movement.{made, entry_of};
 
-use crate::admission::check_movement;
 use crate::entries::Entry;
 use crate::faults::Fault;
-use crate::meaning::{ACCOUNTS, CEILING, Vault};
+use crate::meaning::Vault;
+use crate::movements::{Direction, Movement};
+use crate::table::BalanceTable;
 
 // a journal uses no more places than this of the list that it is lent
 pub const JOURNAL_PLACES: usize = 65_536;
 
-#[derive(Drop)]
+#[derive(Debug, Drop)]
 pub struct Journal<'a> {
+    // lent by the caller, since a vault takes no memory of its own: so a count stands beside it
     entries: &'a mut [Entry],
     // how many places hold an entry
     used: usize,
-    // kuruş, by account: the sums of the entries, kept so that a balance is read and not summed anew
-    balances: [u64; 64],
+    // the sums of the entries, kept so that a balance is read and not summed anew
+    balances: BalanceTable,
     ghost within: { used ≤ places entries.now },
-    ghost long: { length balances ≡ 64 },
-    ghost agree: { balances ≡ balances_of entries.now used },
+    ghost agree: { balances.balances ≡ balances_of entries.now used },
     ghost sums: { Sums entries.now used },
     ghost free: { Free entries.now used },
 }
 
 impl<'a> Journal<'a> {
+    ghost use Rattle.vault.specs.Journal.{Posts};
+
     // `lent`: the list stays the caller's, who finds in it what the journal wrote once the journal is let go.
     pub fn new(entries: &'a mut [Entry]) -> Journal<'a>
         ensures list { result.entries.now ≡ cleared entries.old }
@@ -34,16 +39,11 @@ impl<'a> Journal<'a> {
         ensures opens { meant result.entries.now result.used ≡ opened_journal entries.old }
     {
         let room = entries.len().min(JOURNAL_PLACES);
-        for place in 0..room {
-            entries[place] = Entry {
-                account: 0,
-                amount: 0,
-            };
-        }
+        entries[..room].fill(Entry::default());
         Journal {
             entries,
             used: 0,
-            balances: [0; 64],
+            balances: BalanceTable::new(),
         }
     }
 
@@ -51,20 +51,30 @@ impl<'a> Journal<'a> {
     pub fn entries(&self) -> &[Entry]
         ensures { result.now ≡ take self.now.used self.now.entries.now }
     {
-        &self.entries[0..self.used]
+        &self.entries[..self.used]
+    }
+
+    // Makes a movement, and writes its entry at the first free place.
+    fn post(&mut self, movement: Movement) -> Result<(), Fault>
+        ensures { Posts self.old self.new result (made movement) (entry_of movement) }
+    {
+        let balance = self.balances.balance_after(movement, self.left())?;
+        self.entries[self.used] = movement.entry();
+        self.used += 1;
+        self.balances.set(movement.account, balance);
+        Ok(())
     }
 }
 
 impl Vault for Journal<'_> {
+    ghost use Rattle.vault.specs.Journal.{Posts};
+
     ghost cash = { λ j. meant j.entries.now j.used };
 
-    fn sound(&self) {}
+    ghost whole = { λ j. Prim.search rules };
 
     fn balance(&self, account: u8) -> u64 {
-        if account as usize >= ACCOUNTS {
-            return 0;
-        }
-        self.balances[account as usize]
+        self.balances.balance(account)
     }
 
     fn left(&self) -> Option<u64> {
@@ -72,40 +82,22 @@ impl Vault for Journal<'_> {
     }
 
     fn credit(&mut self, account: u8, amount: u64) -> Result<(), Fault>
-        ensures moves { outcome result (meant self.new.entries.now self.new.used) ≡ credited (meant self.old.entries.now self.old.used) account amount }
-        ensures list { self.new.entries.now ≡ posted result self.old.entries.now self.old.used (credit_entry account amount) }
-        ensures used { self.new.used ≡ counted result self.old.used }
-        ensures lent { self.new.entries.ghost_name ≡ self.old.entries.ghost_name }
+        ensures { Posts self.old self.new result (λ c. credited c account amount) (credit_entry account amount) }
     {
-        let held = self.balance(account);
-        let passes_ceiling = amount > CEILING - held;
-        check_movement(account, amount, self.left(), Fault::Ceiling, passes_ceiling)?;
-        let place = self.used;
-        self.entries[place] = Entry {
+        self.post(Movement {
+            direction: Direction::Credit,
             account,
-            amount: amount as i64,
-        };
-        self.used = place + 1;
-        self.balances[account as usize] = held + amount;
-        Ok(())
+            amount,
+        })
     }
 
     fn debit(&mut self, account: u8, amount: u64) -> Result<(), Fault>
-        ensures moves { outcome result (meant self.new.entries.now self.new.used) ≡ debited (meant self.old.entries.now self.old.used) account amount }
-        ensures list { self.new.entries.now ≡ posted result self.old.entries.now self.old.used (debit_entry account amount) }
-        ensures used { self.new.used ≡ counted result self.old.used }
-        ensures lent { self.new.entries.ghost_name ≡ self.old.entries.ghost_name }
+        ensures { Posts self.old self.new result (λ c. debited c account amount) (debit_entry account amount) }
     {
-        let held = self.balance(account);
-        let exceeds_balance = amount > held;
-        check_movement(account, amount, self.left(), Fault::Short, exceeds_balance)?;
-        let place = self.used;
-        self.entries[place] = Entry {
+        self.post(Movement {
+            direction: Direction::Debit,
             account,
-            amount: -(amount as i64),
-        };
-        self.used = place + 1;
-        self.balances[account as usize] = held - amount;
-        Ok(())
+            amount,
+        })
     }
 }

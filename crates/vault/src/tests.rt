@@ -1,45 +1,39 @@
 // Both vaults on examples.
-use crate::{BalanceTable, CEILING, Entry, Fault, Journal, Vault};
+use crate::{BalanceTable, CEILING, Entry, Journal, Vault};
 use std::process::Abort;
 
-// The number of a refusal, or 0.
-fn number(answer: Result<(), Fault>) -> u8 {
-    match answer {
-        Ok(()) => 0,
-        Err(fault) => fault.number(),
-    }
+// What a credit answers, a refusal by its number.
+fn credit<V: Vault>(vault: &mut V, account: u8, amount: u64) -> Result<(), u8> {
+    vault.credit(account, amount).map_err(u8::from)
 }
 
-fn credit<V: Vault>(vault: &mut V, account: u8, amount: u64) -> u8 {
-    number(vault.credit(account, amount))
-}
-
-fn debit<V: Vault>(vault: &mut V, account: u8, amount: u64) -> u8 {
-    number(vault.debit(account, amount))
+// The same of a debit.
+fn debit<V: Vault>(vault: &mut V, account: u8, amount: u64) -> Result<(), u8> {
+    vault.debit(account, amount).map_err(u8::from)
 }
 
 // Where a movement has several faults, the answer is the first in order.
 fn refuses_in_order<V: Vault>(rt: &impl Abort, vault: &mut V) {
-    assert_eq!(rt; credit(vault, 64, 0), 1);
-    assert_eq!(rt; debit(vault, 64, CEILING + 1), 1);
-    assert_eq!(rt; credit(vault, 63, 0), 2);
-    assert_eq!(rt; debit(vault, 63, 0), 2);
-    assert_eq!(rt; credit(vault, 63, CEILING + 1), 2);
-    assert_eq!(rt; debit(vault, 63, CEILING + 1), 2);
-    assert_eq!(rt; debit(vault, 63, 1), 5);
+    assert_eq!(rt; credit(vault, 64, 0), Err(1));
+    assert_eq!(rt; debit(vault, 64, CEILING + 1), Err(1));
+    assert_eq!(rt; credit(vault, 63, 0), Err(2));
+    assert_eq!(rt; debit(vault, 63, 0), Err(2));
+    assert_eq!(rt; credit(vault, 63, CEILING + 1), Err(2));
+    assert_eq!(rt; debit(vault, 63, CEILING + 1), Err(2));
+    assert_eq!(rt; debit(vault, 63, 1), Err(5));
 }
 
 // Both sides of the ceiling and of nothing; no other account is touched.
 fn moves<V: Vault>(rt: &impl Abort, vault: &mut V) {
-    assert_eq!(rt; credit(vault, 7, CEILING - 1), 0);
-    assert_eq!(rt; credit(vault, 7, 2), 4);
-    assert_eq!(rt; credit(vault, 7, 1), 0);
+    assert_eq!(rt; credit(vault, 7, CEILING - 1), Ok(()));
+    assert_eq!(rt; credit(vault, 7, 2), Err(4));
+    assert_eq!(rt; credit(vault, 7, 1), Ok(()));
     assert_eq!(rt; vault.balance(7), CEILING);
-    assert_eq!(rt; credit(vault, 7, 1), 4);
-    assert_eq!(rt; debit(vault, 7, CEILING - 5), 0);
-    assert_eq!(rt; debit(vault, 7, 6), 5);
+    assert_eq!(rt; credit(vault, 7, 1), Err(4));
+    assert_eq!(rt; debit(vault, 7, CEILING - 5), Ok(()));
+    assert_eq!(rt; debit(vault, 7, 6), Err(5));
     assert_eq!(rt; vault.balance(7), 5);
-    assert_eq!(rt; debit(vault, 7, 5), 0);
+    assert_eq!(rt; debit(vault, 7, 5), Ok(()));
     assert_eq!(rt; vault.balance(7), 0);
     assert_eq!(rt; vault.balance(6), 0);
     assert_eq!(rt; vault.balance(64), 0);
@@ -73,12 +67,12 @@ fn journal_fills_up(rt: HostRuntime) {
         amount: 9,
     }; 2];
     let mut vault = Journal::new(&mut list);
-    assert_eq!(rt; credit(&mut vault, 3, 40), 0);
+    assert_eq!(rt; credit(&mut vault, 3, 40), Ok(()));
     assert_eq!(rt; vault.left(), Some(1));
-    assert_eq!(rt; debit(&mut vault, 3, 15), 0);
-    assert_eq!(rt; credit(&mut vault, 3, CEILING), 3);
-    assert_eq!(rt; debit(&mut vault, 3, 26), 3);
-    assert_eq!(rt; credit(&mut vault, 3, 0), 2);
+    assert_eq!(rt; debit(&mut vault, 3, 15), Ok(()));
+    assert_eq!(rt; credit(&mut vault, 3, CEILING), Err(3));
+    assert_eq!(rt; debit(&mut vault, 3, 26), Err(3));
+    assert_eq!(rt; credit(&mut vault, 3, 0), Err(2));
     assert_eq!(rt; vault.balance(3), 25);
     assert_eq!(rt;
         vault.entries(),

@@ -1,22 +1,13 @@
--- Each turn clears one place more, and a journal opens with nothing on any account.
-use Rattle.std.proofs.Common.{◌<◌, List, length, set, refl, ap, ◌∙◌, arith}
-use Rattle.vault.specs.declared.entries.Entry.{Entry}
-use Rattle.vault.specs.Entries.{nothing}
-use Rattle.vault.proofs.Clearing.{clears_one, opened}
+-- A journal opens with nothing on any account.
+use Rattle.std.proofs.Common.{arith, rules}
+use Rattle.std.proofs.lemmas.Grind.{common_steps}
+use Rattle.vault.specs.Entries.{balances_of}
+use Rattle.vault.proofs.Clearing.{free_cleared}
 use Rattle.vault.proofs.posting.Journal.new.Goals as goal
 
-pub loop-place-preserved : goal.loop-place-preserved
-loop-place-preserved c =
-    let inside : c.loop-place.place < length c.args.entries.now = omega arith in
-    ap (λ (es : List Entry). set es c.loop-place.place nothing) c.loop-place.invariant
-    ∙ clears_one c.loop-place.place c.args.entries.now inside
+pub invariant_of-result-clause-agree : goal.invariant_of-result-clause-agree
+unfolding balances_of
+invariant_of-result-clause-agree c = grind (arith, common_steps)
 
-pub invariant_of-result : goal.invariant_of-result
-invariant_of-result c =
-    let o = opened c.loop-place.place c.args.entries.now c.loop-place.entries c.loop-place.invariant c.loop-place.auto.entries (omega arith) in
-    record { within = omega arith; long = refl; agree = o.agree; sums = o.sums; free = o.free }
-
-pub returns : goal.returns
-returns c =
-    let o = opened c.loop-place.place c.args.entries.now c.loop-place.entries c.loop-place.invariant c.loop-place.auto.entries (omega arith) in
-    record { list = o.list; used = refl; lent = refl; opens = o.opens }
+pub invariant_of-result-clause-free : goal.invariant_of-result-clause-free
+invariant_of-result-clause-free c = free_cleared c.args.entries.now _ (search rules)
