@@ -43,11 +43,7 @@ read_product a b x y s = λ i. s.left i *ℤ s.right i
 fits_if_small : (z : ℤ) → nat_abs z < 2 ^ 127 → SFits w128 z
 fits_if_small z h = omega (arith, ints)
 
--- their product fits
-pub product_fits : (a b x y : ℤ) → Small a b x y → SFits w128 (to_z w128 (of_z w128 a) *ℤ to_z w128 (of_z w128 b))
-product_fits a b x y s = subst (SFits w128) (sym (read_product a b x y s)) (fits_if_small (x *ℤ y) s.small)
-
--- and is that of x and y
+-- their product is that of x and y
 pub product_exact : (a b x y : ℤ) → Small a b x y → to_z w128 (of_z w128 (to_z w128 (of_z w128 a) *ℤ to_z w128 (of_z w128 b))) ≡ x *ℤ y
 product_exact a b x y s =
     ap (λ (z : ℤ). to_z w128 (of_z w128 z)) (read_product a b x y s) ∙ to_z-of_z w128 (x *ℤ y) (fits_if_small (x *ℤ y) s.small)

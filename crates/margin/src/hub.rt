@@ -2,9 +2,8 @@
 ghost use Rattle.std.specs.Prelude.{◌≡◌, ◌+◌, ◌*◌, ◌^◌, ◌≤◌};
 ghost use Rattle.std.specs.Result.{result_map_both};
 ghost use Rattle.margin.specs.Units.{RoundedUp, accepted_rule, hub_long, hub_short, hub_units};
-ghost use Rattle.std.proofs.Common.{arith};
-ghost use Rattle.std.proofs.lemmas.Nat.{mul-le};
-ghost use Rattle.margin.specs.Rounding.{rounded_up_least};
+ghost use Rattle.margin.specs.Bounds.{hub_bounded};
+ghost use Rattle.margin.specs.declared.hub.TheConstants.{MAX_TAX, MAX_SHARE};
 
 use crate::rule::{MarginRule, WHOLE_SQUARED};
 use market::{Opening, Refusal, WHOLE};
@@ -15,12 +14,12 @@ pub const MAX_TAX: u32 = 2_500;
 // hundredths of a percent
 pub const MAX_SHARE: u32 = 10_000;
 
-#[derive(Clone, Copy)]
+#[derive(Clone, Copy, PartialEq, Eq, Debug)]
 pub struct HubRule {
     tax: u16, // hundredths of a percent
     share: u16, // hundredths of a percent
-    ghost taxed: { tax ≤ 2500 },
-    ghost shared: { share ≤ 10000 },
+    ghost taxed: { tax ≤ MAX_TAX },
+    ghost shared: { share ≤ MAX_SHARE },
 }
 
 impl HubRule {
@@ -41,13 +40,7 @@ impl HubRule {
 impl MarginRule for HubRule {
     ghost units = { λ r. hub_units r.tax r.share };
 
-    ghost bounded = { λ r p a above below low high.
-        let taxed : p * (10000 + r.tax) ≤ p * 12500 = mul-le p (10000 + r.tax) p 12500 (omega arith) (omega arith) in
-        let shared : p * r.share ≤ p * 10000 = mul-le p r.share p 10000 (omega arith) (omega arith) in
-        let both : p * r.share * (10000 + r.tax) ≤ p * 10000 * 12500 = mul-le (p * r.share) (10000 + r.tax) (p * 10000) 12500 shared (omega arith) in (
-          rounded_up_least (p * (10000 + r.tax)) (10 ^ 4) (2 * p) (omega arith) (omega arith),
-          rounded_up_least (p * r.share * (10000 + r.tax)) (10 ^ 8) (2 * p) (omega arith) (omega arith),
-        ) };
+    ghost bounded = { λ r p a _ _ _ _. hub_bounded r.tax r.share p a r.taxed r.shared };
 
     fn long(&self, opening: &Opening) -> u64
         ensures unit { result ≡ hub_long self.now.tax opening.now.price }

@@ -1,16 +1,13 @@
 // The worked figures of a position through the running code, a short position, and the largest figures that the types hold.
 use crate::gas::GasRule;
 use crate::hub::HubRule;
-use crate::position::{Position, added, adjustment, collateral, loss};
+use crate::position::Position;
 use market::Opening;
 use std::test::Fail;
 
 #[test]
 fn three_lots(rt: HostRuntime) -> Result<(), Fail> {
-    let Some(opening) = Opening::new(1_000_000, 500) else {
-        assert!(rt; false);
-        return Ok(());
-    };
+    let opening = Opening::new(1_000_000, 500).ok_or("out of range")?;
     let position = Position {
         net: 3,
         buys: 0,
@@ -18,20 +15,17 @@ fn three_lots(rt: HostRuntime) -> Result<(), Fail> {
         result: 80_000,
         value: -3_060_000,
     };
-    assert_eq!(rt; collateral(&GasRule, &opening, 31, &position), 9_532_500);
-    assert_eq!(rt; loss(31, &position), 0);
-    assert_eq!(rt; adjustment(&opening, 31, &position), 1_860_000);
-    assert_eq!(rt; added(&GasRule, &opening, 31, &position), 11_392_500);
+    assert_eq!(rt; position.collateral(&GasRule, &opening, 31), 9_532_500);
+    assert_eq!(rt; position.loss(31), 0);
+    assert_eq!(rt; position.adjustment(&opening, 31), 1_860_000);
+    assert_eq!(rt; position.added(&GasRule, &opening, 31), 11_392_500);
     Ok(())
 }
 
 #[test]
 fn short_with_orders(rt: HostRuntime) -> Result<(), Fail> {
     let rule = HubRule::new(1_000, 2_500)?;
-    let Some(opening) = Opening::new(1_000_000, 500) else {
-        assert!(rt; false);
-        return Ok(());
-    };
+    let opening = Opening::new(1_000_000, 500).ok_or("out of range")?;
     let position = Position {
         net: -4,
         buys: 5,
@@ -41,14 +35,11 @@ fn short_with_orders(rt: HostRuntime) -> Result<(), Fail> {
     };
     assert_eq!(rt; position.long_side(), 1);
     assert_eq!(rt; position.short_side(), 6);
+    assert_eq!(rt; position.collateral(&rule, &opening, 30), 30 * 6 * 275_000);
+    assert_eq!(rt; position.loss(30), 2_100);
+    assert_eq!(rt; position.adjustment(&opening, 30), -3_000);
     assert_eq!(rt;
-        collateral(&rule, &opening, 30, &position),
-        30 * 6 * 275_000
-    );
-    assert_eq!(rt; loss(30, &position), 2_100);
-    assert_eq!(rt; adjustment(&opening, 30, &position), -3_000);
-    assert_eq!(rt;
-        added(&rule, &opening, 30, &position),
+        position.added(&rule, &opening, 30),
         49_500_000 + 2_100 - 3_000
     );
     Ok(())
@@ -57,10 +48,7 @@ fn short_with_orders(rt: HostRuntime) -> Result<(), Fail> {
 #[test]
 fn largest_figures(rt: HostRuntime) -> Result<(), Fail> {
     let rule = HubRule::new(2_500, 10_000)?;
-    let Some(opening) = Opening::new(4_000_000, 2_000) else {
-        assert!(rt; false);
-        return Ok(());
-    };
+    let opening = Opening::new(4_000_000, 2_000).ok_or("out of range")?;
     let position = Position {
         net: i64::MIN,
         buys: 0,
@@ -70,9 +58,9 @@ fn largest_figures(rt: HostRuntime) -> Result<(), Fail> {
     };
     assert_eq!(rt; position.long_side(), 0);
     assert_eq!(rt; position.short_side(), 27_670_116_110_564_327_423);
-    assert_eq!(rt; loss(1, &position), 9_223_372_036_854_775_808);
+    assert_eq!(rt; position.loss(1), 9_223_372_036_854_775_808);
     assert_eq!(rt;
-        adjustment(&opening, 1, &position),
+        position.adjustment(&opening, 1),
         4_000_001 * 9_223_372_036_854_775_808
     );
     Ok(())
