@@ -1,5 +1,6 @@
 -- What is known of each lot of a table: tests of all as facts about each, and the bounds of a lot that is fit.
-use Rattle.std.proofs.Common.{◌≡◌, ℕ, zero, suc, ◌<◌, ◌≤◌, true, not, List, [], ◌∷◌, length, get_or, drop, sym, refl, subst}
+use Rattle.std.proofs.Common.{◌≡◌, ℕ, zero, suc, ◌+◌, ◌-◌, ◌<◌, ◌≤◌, true, not, List, [], ◌∷◌, length, get_or, take, drop, sym, refl, ap, ◌∙◌, subst, arith}
+use Rattle.std.proofs.lemmas.List.{take_all, length-drop, get_or-drop}
 use Rattle.std.specs.List.{AllByRecursion}
 use Rattle.std.proofs.lemmas.Bool.{and_parts, and_from, leb-true}
 use Rattle.std.proofs.ByRecursion.{All-get_or, All-weaker}
@@ -46,3 +47,27 @@ pub sided_drop : (n : ℕ) (ls : List Lot) → OneSided ls → OneSided (drop n 
 sided_drop zero ls h = h
 sided_drop (suc n) [] h = h
 sided_drop (suc n) (l ∷ ls) h = sided_drop n ls h.1
+
+-- a lot of the slice from an index on
+abbrev pub lot_from : List Lot → ℕ → ℕ → Lot
+lot_from xs n i = get_or (take (length xs - n) (drop n xs)) i no_lot
+
+-- where it stands among all lots
+pub record Seen (rs : List Lot) (n i : ℕ) (l : Lot) : Type 0 where
+  pub there : n + i < length rs
+  pub is : l ≡ get_or rs (n + i) no_lot
+
+module _ (xs rs : List Lot) (n i : ℕ) (e : xs ≡ rs) where
+  pub seen : n ≤ length xs → i < length (take (length xs - n) (drop n xs)) → Seen rs n i (lot_from xs n i)
+  seen le lt =
+      let whole : take (length xs - n) (drop n xs) ≡ drop n xs = take_all (length xs - n) (drop n xs) (omega (arith, length-drop n xs)) in
+      record {
+        there = omega (arith, ap length whole, length-drop n xs, ap length e);
+        is = ap (λ l. get_or l i no_lot) whole ∙ get_or-drop n xs i no_lot ∙ ap (λ l. get_or l (n + i) no_lot) e;
+      }
+
+  -- behind the last of the slice stands nothing
+  pub behind_all : length (take (length xs - n) (drop n xs)) ≤ i → length rs ≤ n + i
+  behind_all le =
+      let whole : take (length xs - n) (drop n xs) ≡ drop n xs = take_all (length xs - n) (drop n xs) (omega (arith, length-drop n xs)) in
+      omega (arith, ap length whole, length-drop n xs, ap length e)

@@ -1,19 +1,15 @@
 -- What an arrival keeps: each lot is fit, those of one member in one contract have one side, and places stay free.
-use Rattle.std.proofs.Common.{◌≡◌, ℕ, ◌-◌, ◌≤◌, min, true, false, cond, not, eqb, List, [], ◌∷◌, take, sym, ap, subst, ⊎_elim, arith}
+use Rattle.std.proofs.Common.{◌≡◌, ℕ, ◌-◌, ◌≤◌, min, true, false, cond, not, eqb, List, [], ◌∷◌, sym, subst, ⊎_elim, arith}
 use Rattle.std.specs.List.{AllByRecursion}
 use Rattle.std.proofs.lemmas.Bool.{cases_Bool, cond-true, cond-false, eqb-false}
 use Rattle.std.proofs.lemmas.Bool.Decides.{nat_tests}
 use Rattle.std.proofs.ByRecursion.{All-weaker}
 use Rattle.line.specs.Places.{ahead}
 use Rattle.line.specs.Lines.{Free, each, entered}
-use Rattle.line.specs.Tables.{records, whole, Within, Cleared}
-use Rattle.line.specs.declared.table.Table.{Table}
 use Rattle.line.proofs.Lines.{each_opened, each_shut, all_entered}
-use Rattle.line.proofs.Changes.{empty_sound}
 use Rattle.market.specs.Places.{lot_place}
-use Rattle.market.specs.Records.{no_lot}
 use Rattle.market.specs.declared.records.Lot.{Lot}
-use Rattle.lots.specs.Lots.{opposes, fit, one_sided, LotsKept}
+use Rattle.lots.specs.Lots.{opposes, fit, one_sided}
 use Rattle.lots.specs.Closing.{with_quantity, closes, staying, closing, rested, arrived}
 use Rattle.lots.proofs.Fits.{fit_parts, OneSided, sided_opened, sided_shut}
 
@@ -122,9 +118,3 @@ arrived_sided a ls h =
 -- the arriving lot's place stays free
 pub closing_free : (a : Lot) (q : ℕ) (ls : List Lot) → Free lot_place a ls → Free lot_place (with_quantity a q) (closing a a.quantity ls).lots
 closing_free a q ls f = closing_all a (λ y. lot_place y ≡ lot_place a → ⊥) (λ l k h _ _. h) a.quantity ls f
-
--- a table with no lot keeps all that is kept
-pub empty_kept : (t : Table Lot) → t.used ≡ 0 → Within t → Cleared no_lot t → LotsKept t
-empty_kept t none within cleared =
-    let e : records t ≡ [] = ap (λ (n : ℕ). take n (whole t)) none in
-    record { sound = empty_sound lot_place no_lot t none within cleared; fitting = ap (each fit) e; sided = ap one_sided e }

@@ -1,13 +1,9 @@
--- Lots: where they stand in line, whose they are, and what is kept of all of them.
+-- Lots: where they stand in line, whose they are, and what a table of lots keeps of all of them.
 -- Quantities are in thousand Sm³ a gas day, prices in kuruş per thousand Sm³.
-use Rattle.std.specs.Prelude.{◌≡◌, ℕ, Bool, true, false, not, ◌&&◌, List, [], ◌∷◌, ◌==◌}
+use Rattle.std.specs.Prelude.{ℕ, Bool, true, false, not, ◌&&◌, List, [], ◌∷◌, ◌==◌}
 pub use Rattle.line.specs.Lines.{each}
 use Rattle.line.specs.Places.{Rank, rising}
-use Rattle.line.specs.Tables.{records, Sound}
-use Rattle.line.specs.declared.table.Table.{Table}
 use Rattle.market.specs.Opening.{from_one_to}
-use Rattle.market.specs.Places.{lot_place}
-use Rattle.market.specs.Records.{no_lot}
 pub use Rattle.market.specs.Records.{is_sided}
 use Rattle.market.specs.declared.records.Side.{Side}
 use Rattle.market.specs.declared.records.Side.TheVariants.{Free, Buy, Sell}
@@ -45,9 +41,3 @@ fit l = is_sided l.side && (from_one_to 2500 l.quantity && from_one_to 4000000 l
 abbrev pub one_sided : List Lot → Bool
 one_sided [] = true
 one_sided (l ∷ ls) = each (λ k. not (opposes l k)) ls && one_sided ls
-
--- what is kept of a table of lots: they stand in line with blank places behind them, each is fit, and those of one member in one contract have one side
-pub record LotsKept (t : Table Lot) : Type 0 where
-  pub sound : Sound lot_place no_lot t
-  pub fitting : each fit (records t) ≡ true
-  pub sided : one_sided (records t) ≡ true

@@ -1,15 +1,18 @@
 // How an arriving lot closes opposite lots of its member in its contract, the lowest tape number first.
+// These functions work on the line of a `Lots`, and ask again for what it keeps: within an arrival its fields hold only at the end.
 ghost use Rattle.std.specs.Prelude.{◌≡◌, ◌+◌, ◌*◌, ◌<◌, ◌≤◌, true, false, ◌++◌, length, get_or, take, drop, slice_index_or, unsigned_abs};
 ghost use Rattle.std.specs.List.{AllByRecursion};
 ghost use Rattle.line.specs.Places.{ahead};
-ghost use Rattle.line.specs.Tables.{records, whole, Sound};
+ghost use Rattle.line.specs.Lines.{each};
+ghost use Rattle.line.specs.Tables.{records, StaysLent};
 ghost use Rattle.market.specs.Records.{no_lot};
 ghost use Rattle.market.specs.Places.{lot_place};
-ghost use Rattle.lots.specs.Lots.{first_place, opposes, fit, LotsKept};
+ghost use Rattle.lots.specs.Lots.{first_place, opposes, fit, one_sided};
 ghost use Rattle.lots.specs.Closing.{difference, earns, closing, with_earned};
 
+use crate::arrival::Arrival;
 use crate::place::first_key;
-use line::{Placed, Table};
+use line::Line;
 use market::{Lot, Side};
 
 // What is left of an arriving quantity, and what its closings earned.
@@ -19,14 +22,6 @@ pub(crate) struct Rest {
     pub earned: i64, // kuruş a gas day
 }
 
-// The lots before `upto` are used up whole, with this rest.
-#[derive(Clone, Copy)]
-struct UsedUp {
-    upto: usize,
-    left: u32, // thousand Sm³ a gas day
-    earned: i64, // kuruş a gas day
-}
-
 // Whether the lot is of the member and contract of the first, and on the other side.
 fn opposes(first: &Lot, lot: &Lot) -> bool
     ensures { result ≡ opposes first.now lot.now }
@@ -34,11 +29,10 @@ fn opposes(first: &Lot, lot: &Lot) -> bool
     if lot.member != first.member || lot.contract != first.contract {
         return false;
     }
-    match (first.side, lot.side) {
-        (Side::Buy, Side::Sell) => true,
-        (Side::Sell, Side::Buy) => true,
-        _ => false,
-    }
+    matches!(
+        (first.side, lot.side),
+        (Side::Buy, Side::Sell) | (Side::Sell, Side::Buy)
+    )
 }
 
 // A quantity × (sold price less bought price).
@@ -49,7 +43,7 @@ pub(crate) fn difference(quantity: u32, sold: u32, bought: u32) -> i64
     ensures is { result ≡ difference quantity sold bought }
     ensures bound { unsigned_abs result ≤ 4000000 * quantity }
 {
-    quantity as i64 * (sold as i64 - bought as i64)
+    i64::from(quantity) * (i64::from(sold) - i64::from(bought))
 }
 
 // What closing a quantity earns, where the arriving side and price are given, and the price of the lot closed.
@@ -67,71 +61,59 @@ fn earns(side: Side, quantity: u32, price: u32, closed: u32) -> i64
     }
 }
 
-// Goes over the opposite lots from an index on that the arriving lot uses up whole.
-fn used_up(lots: &Table<'_, Lot>, from: usize, lot: Lot) -> UsedUp
-    requires kept { LotsKept lots.now }
-    requires there { from ≤ lots.now.used }
-    requires fit { fit lot ≡ true }
-    ensures order { from ≤ result.upto }
-    ensures within { result.upto ≤ lots.now.used }
-    ensures bound { unsigned_abs result.earned + 4000000 * result.left ≤ 4000000 * lot.quantity }
-    ensures does { closing lot lot.quantity (drop from (records lots.now)) ≡ with_earned result.earned (closing lot result.left (drop result.upto (records lots.now))) }
-    ensures stops { result.upto < lots.now.used → opposes lot (slice_index_or (records lots.now) result.upto no_lot) ≡ true → result.left < (get_or (records lots.now) result.upto no_lot).quantity }
+// Goes over the opposite lots from an index on that the arriving lot uses up whole: answers the index behind them, and the rest.
+fn used_up(line: &Line<'_, Lot>, from: usize, arrival: Arrival) -> (usize, Rest)
+    requires fitting { each fit (records line.now.table) ≡ true }
+    requires there { from ≤ line.now.table.used }
+    ensures order { from ≤ result.0 }
+    ensures within { result.0 ≤ line.now.table.used }
+    ensures bound { unsigned_abs result.1.earned + 4000000 * result.1.left ≤ 4000000 * arrival.lot.quantity }
+    ensures does { closing arrival.lot arrival.lot.quantity (drop from (records line.now.table)) ≡ with_earned result.1.earned (closing arrival.lot result.1.left (drop result.0 (records line.now.table))) }
+    ensures stops { result.0 < line.now.table.used → opposes arrival.lot (slice_index_or (records line.now.table) result.0 no_lot) ≡ true → result.1.left < (get_or (records line.now.table) result.0 no_lot).quantity }
 {
-    let used = lots.used;
-    let mut i = from;
-    let mut left = lot.quantity;
+    let mut upto = from;
+    let mut left = arrival.lot.quantity;
     let mut earned: i64 = 0;
-    while i < used {
-        let next = lots.at(i);
-        if !opposes(&lot, &next) {
-            return UsedUp {
-                upto: i,
-                left,
-                earned,
-            };
+    for next in &line.records()[from..] {
+        if !opposes(&arrival.lot, next) || next.quantity > left {
+            break;
         }
-        if next.quantity > left {
-            return UsedUp {
-                upto: i,
-                left,
-                earned,
-            };
-        }
-        earned += earns(lot.side, next.quantity, lot.price, next.price);
+        earned += earns(
+            arrival.lot.side,
+            next.quantity,
+            arrival.lot.price,
+            next.price,
+        );
         left -= next.quantity;
-        i += 1;
+        upto += 1;
     }
-    UsedUp {
-        upto: i,
-        left,
-        earned,
-    }
+    (upto, Rest { left, earned })
 }
 
 // Closes a part of the lot at the index, if it is an opposite one: what is left of the arriving lot does not use it up.
-fn close_part(lots: &mut Table<'_, Lot>, index: usize, lot: Lot, left: u32) -> Rest
-    requires kept { LotsKept lots.old }
-    requires there { index ≤ lots.old.used }
-    requires behind { AllByRecursion (λ l. ahead (lot_place l) (first_place lot.member lot.contract) ≡ false) (drop index (records lots.old)) }
-    requires more { index < lots.old.used → opposes lot (slice_index_or (records lots.old) index no_lot) ≡ true → left < (get_or (records lots.old) index no_lot).quantity }
-    requires fit { fit lot ≡ true }
-    requires left { left ≤ lot.quantity }
-    ensures same { lots.new.places.ghost_name ≡ lots.old.places.ghost_name }
-    ensures used { lots.new.used ≡ lots.old.used }
-    ensures length { length (whole lots.new) ≡ length (whole lots.old) }
-    ensures records { records lots.new ≡ take index (records lots.old) ++ (closing lot left (drop index (records lots.old))).lots }
-    ensures sound { Sound lot_place no_lot lots.new }
-    ensures left { result.left ≡ (closing lot left (drop index (records lots.old))).left }
-    ensures earned { result.earned ≡ (closing lot left (drop index (records lots.old))).earned }
+fn close_part(line: &mut Line<'_, Lot>, index: usize, arrival: Arrival, left: u32) -> Rest
+    requires fitting { each fit (records line.old.table) ≡ true }
+    requires sided { one_sided (records line.old.table) ≡ true }
+    requires there { index ≤ line.old.table.used }
+    requires behind { AllByRecursion (λ l. ahead (lot_place l) (first_place arrival.lot.member arrival.lot.contract) ≡ false) (drop index (records line.old.table)) }
+    requires more { index < line.old.table.used → opposes arrival.lot (slice_index_or (records line.old.table) index no_lot) ≡ true → left < (get_or (records line.old.table) index no_lot).quantity }
+    requires left { left ≤ arrival.lot.quantity }
+    ensures lent { StaysLent no_lot line.old.table line.new.table }
+    ensures used { line.new.table.used ≡ line.old.table.used }
+    ensures records { records line.new.table ≡ take index (records line.old.table) ++ (closing arrival.lot left (drop index (records line.old.table))).lots }
+    ensures left { result.left ≡ (closing arrival.lot left (drop index (records line.old.table))).left }
+    ensures earned { result.earned ≡ (closing arrival.lot left (drop index (records line.old.table))).earned }
     ensures bound { unsigned_abs result.earned + 4000000 * result.left ≤ 4000000 * left }
 {
-    if index < lots.used {
-        let mut next = lots.at(index);
-        if opposes(&lot, &next) {
-            let earned = earns(lot.side, left, lot.price, next.price);
-            next.quantity -= left;
-            lots.amend(index, next);
+    if index < line.table.used {
+        let next = line.table.at(index);
+        if opposes(&arrival.lot, &next) {
+            let earned = earns(arrival.lot.side, left, arrival.lot.price, next.price);
+            let part = Lot {
+                quantity: next.quantity - left,
+                ..next
+            };
+            line.amend(index, part);
             return Rest { left: 0, earned };
         }
     }
@@ -139,25 +121,22 @@ fn close_part(lots: &mut Table<'_, Lot>, index: usize, lot: Lot, left: u32) -> R
 }
 
 // Closes opposite lots of the arriving lot's member in its contract, the lowest tape number first.
-pub(crate) fn close(lots: &mut Table<'_, Lot>, lot: Lot) -> Rest
-    requires kept { LotsKept lots.old }
-    requires fit { fit lot ≡ true }
-    ensures same { lots.new.places.ghost_name ≡ lots.old.places.ghost_name }
-    ensures used { lots.new.used ≤ lots.old.used }
-    ensures length { length (whole lots.new) ≡ length (whole lots.old) }
-    ensures records { records lots.new ≡ (closing lot lot.quantity (records lots.old)).lots }
-    ensures sound { Sound lot_place no_lot lots.new }
-    ensures left { result.left ≡ (closing lot lot.quantity (records lots.old)).left }
-    ensures earned { result.earned ≡ (closing lot lot.quantity (records lots.old)).earned }
-    ensures bound { unsigned_abs result.earned + 4000000 * result.left ≤ 4000000 * lot.quantity }
+pub(crate) fn close(line: &mut Line<'_, Lot>, arrival: Arrival) -> Rest
+    requires fitting { each fit (records line.old.table) ≡ true }
+    requires sided { one_sided (records line.old.table) ≡ true }
+    ensures lent { StaysLent no_lot line.old.table line.new.table }
+    ensures used { line.new.table.used ≤ line.old.table.used }
+    ensures records { records line.new.table ≡ (closing arrival.lot arrival.lot.quantity (records line.old.table)).lots }
+    ensures left { result.left ≡ (closing arrival.lot arrival.lot.quantity (records line.old.table)).left }
+    ensures earned { result.earned ≡ (closing arrival.lot arrival.lot.quantity (records line.old.table)).earned }
+    ensures bound { unsigned_abs result.earned + 4000000 * result.left ≤ 4000000 * arrival.lot.quantity }
 {
-    let key = first_key(lot.member, lot.contract);
-    let from = lots.spot(&key);
-    let used = used_up(lots, from, lot);
-    let rest = close_part(lots, used.upto, lot, used.left);
-    lots.cut_run(from, used.upto);
+    let from = line.spot(&first_key(arrival.lot.member, arrival.lot.contract));
+    let (upto, whole) = used_up(line, from, arrival);
+    let part = close_part(line, upto, arrival, whole.left);
+    line.cut_run(from..upto);
     Rest {
-        left: rest.left,
-        earned: used.earned + rest.earned,
+        left: part.left,
+        earned: whole.earned + part.earned,
     }
 }

@@ -6,10 +6,12 @@ mod close;
 mod figures;
 mod place;
 mod position;
+mod table;
 
-pub use arrival::{add_result, arrive};
+pub use arrival::{Arrival, add_result};
 pub use figures::figures_stand;
-pub use position::{Holding, position_of};
+pub use position::Holding;
+pub use table::Lots;
 
 #[cfg(test)]
 mod tests;

@@ -3,18 +3,15 @@ ghost use Rattle.std.specs.Prelude.{◌≡◌};
 ghost use Rattle.market.specs.Places.{lot_place};
 ghost use Rattle.lots.specs.Lots.{first_place};
 
-use market::{Lot, Side};
+use market::Lot;
 
 // The key before which no lot of the member in the contract stands.
 pub(crate) fn first_key(member: u8, contract: u8) -> Lot
     ensures { lot_place result ≡ first_place member contract }
 {
     Lot {
-        contract,
         member,
-        tape: 0,
-        side: Side::Free,
-        quantity: 0,
-        price: 0,
+        contract,
+        ..Lot::default()
     }
 }

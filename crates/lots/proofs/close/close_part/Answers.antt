@@ -15,24 +15,22 @@ use Rattle.lots.proofs.close.close_part.Goals as goal
 
 pub earns-earned-requires : goal.earns-earned-requires
 earns-earned-requires c =
-    let t = c.args.lots.now in
-    let lu = length-take-le t.used (whole t) c.requires.kept.sound.0 in
+    let t = c.args.line.now.table in
+    let lu = length-take-le t.used (whole t) c.args.line.now.table.within in
     let l = c.at-next.result in
-    let f = fit_parts l (fit_at (records t) c.args.index l c.requires.kept.fitting (omega arith) c.at-next.ensures) in
-    let a = fit_parts c.args.lot c.requires.fit in
+    let f = fit_parts l (fit_at (records t) c.args.index l c.requires.fitting (omega arith) c.at-next.ensures) in
+    let a = fit_parts c.args.arrival.lot c.args.arrival.fit in
     let hl = c.requires.left in let hm = a.most in
     record { quantity = omega arith; price = a.dear; closed = f.dear }
 
-pub returns-else-index-lots : goal.returns-else-index-lots
-returns-else-index-lots c =
-    let t = c.args.lots.now in
-    let lu = length-take-le t.used (whole t) c.requires.kept.sound.0 in
-    let e = part_end c.args.lot (records t) c.args.index c.args.left (all_fit (records t) c.requires.kept.fitting) (omega arith) in
+pub returns-else-index-line : goal.returns-else-index-line
+returns-else-index-line c =
+    let t = c.args.line.now.table in
+    let lu = length-take-le t.used (whole t) c.args.line.now.table.within in
+    let e = part_end c.args.arrival.lot (records t) c.args.index c.args.left (all_fit (records t) c.requires.fitting) (omega arith) in
     record {
-      same = refl;
+      lent = record { same = refl; length = refl; cleared = λ h. h };
       used = refl;
-      length = refl;
-      sound = c.requires.kept.sound;
       records = sym (ap (λ (r : Closed). take c.args.index (records t) ++ r.lots) e ∙ take-append-drop c.args.index (records t));
       left = sym (ap (λ (r : Closed). r.left) e);
       earned = sym (ap (λ (r : Closed). r.earned) e);
@@ -41,16 +39,14 @@ returns-else-index-lots c =
 
 pub returns-else-opposes : goal.returns-else-opposes
 returns-else-opposes c =
-    let t = c.args.lots.now in
-    let lu = length-take-le t.used (whole t) c.requires.kept.sound.0 in
+    let t = c.args.line.now.table in
+    let lu = length-take-le t.used (whole t) c.args.line.now.table.within in
     let lt : c.args.index < length (records t) = omega arith in
-    let nay : opposes c.args.lot c.at-next.result ≡ false = sym c.if-opposes.ensures in
-    let e = part_none c.args.lot (records t) c.args.index c.args.left (all_fit (records t) c.requires.kept.fitting) c.at-next.result lt c.at-next.ensures (opened lot_place (records t) c.requires.kept.sound.1) (sided_opened (records t) c.requires.kept.sided) c.requires.behind nay in
+    let nay : opposes c.args.arrival.lot c.at-next.result ≡ false = sym c.if-opposes.ensures in
+    let e = part_none c.args.arrival.lot (records t) c.args.index c.args.left (all_fit (records t) c.requires.fitting) c.at-next.result lt c.at-next.ensures (opened lot_place (records t) c.args.line.now.lined) (sided_opened (records t) c.requires.sided) c.requires.behind nay in
     record {
-      same = refl;
+      lent = record { same = refl; length = refl; cleared = λ h. h };
       used = refl;
-      length = refl;
-      sound = c.requires.kept.sound;
       records = sym (ap (λ (r : Closed). take c.args.index (records t) ++ r.lots) e ∙ take-append-drop c.args.index (records t));
       left = sym (ap (λ (r : Closed). r.left) e);
       earned = sym (ap (λ (r : Closed). r.earned) e);
@@ -59,22 +55,20 @@ returns-else-opposes c =
 
 pub returns-then-opposes : goal.returns-then-opposes
 returns-then-opposes c =
-    let t = c.args.lots.now in let a = c.args.lot in let l = c.at-next.result in let i = c.args.index in let q = c.args.left in
-    let lu = length-take-le t.used (whole t) c.requires.kept.sound.0 in
+    let t = c.args.line.now.table in let a = c.args.arrival.lot in let l = c.at-next.result in let i = c.args.index in let q = c.args.left in
+    let lu = length-take-le t.used (whole t) c.args.line.now.table.within in
     let lt : i < length (records t) = omega arith in
     let d = c.at-next.ensures in
     let o : opposes a l ≡ true = sym c.if-opposes.ensures in
     let h = c.requires.more (omega arith) (ap (opposes a) (sym d) ∙ o) in
     let less : q < l.quantity = omega (arith, ap (λ (k : Lot). k.quantity) d) in
-    let e = part_some a (records t) i q (all_fit (records t) c.requires.kept.fitting) l lt d o less in
-    let hb = c.earns-earned.ensures.bound in let hq = c.requires.left in let hm = (fit_parts a c.requires.fit).most in
+    let e = part_some a (records t) i q (all_fit (records t) c.requires.fitting) l lt d o less in
+    let hb = c.earns-earned.ensures.bound in let hq = c.requires.left in let hm = (fit_parts a c.args.arrival.fit).most in
     let sm : nat_abs c.earns-earned.result ≤ 4000000 * 2500 = omega arith in
     let g = to_z-of_z w64 c.earns-earned.result (small c.earns-earned.result sm) in
     record {
-      same = c.amend.ensures.same;
+      lent = c.amend.ensures.lent;
       used = c.amend.ensures.used;
-      length = c.amend.ensures.length;
-      sound = c.amend.ensures.sound;
       records = c.amend.ensures.records ∙ set_is (records t) i (with_quantity l (l.quantity - q)) lt ∙ sym (ap (λ (r : Closed). take i (records t) ++ r.lots) e);
       left = sym (ap (λ (r : Closed). r.left) e);
       earned = g ∙ c.earns-earned.ensures.is ∙ sym (ap (λ (r : Closed). r.earned) e);

@@ -1,13 +1,12 @@
 -- Each turn, closing the whole run is what was earned so far and closing with what is left from here on.
-use Rattle.std.proofs.Common.{◌≡◌, ◌+◌, ◌-◌, ◌*◌, ◌≤◌, drop, nat_abs}
+use Rattle.std.proofs.Common.{◌≡◌, ◌+◌, ◌*◌, ◌≤◌, drop, nat_abs}
 use Rattle.line.specs.Tables.{records}
 use Rattle.lots.specs.Closing.{closing, with_earned}
 use Rattle.lots.proofs.close.used_up.Given as goal
 
-abbrev pub invariant-loop-i : goal.invariant-loop-i
-invariant-loop-i l =
-    (l.from ≤ l.i) × (l.i ≤ l.used) × (nat_abs l.earned + 4000000 * l.left ≤ 4000000 * l.lot.quantity)
-    × (closing l.lot l.lot.quantity (drop l.from (records l.lots)) ≡ with_earned l.earned (closing l.lot l.left (drop l.i (records l.lots))))
-
-abbrev pub decreases-loop-i : goal.decreases-loop-i
-decreases-loop-i l = l.used - l.i
+abbrev pub invariant-loop-next : goal.invariant-loop-next
+invariant-loop-next l = record {
+  counted : l.upto ≡ l.from + l.next-index;
+  bound : nat_abs l.earned + 4000000 * l.left ≤ 4000000 * l.arrival.lot.quantity;
+  does : closing l.arrival.lot l.arrival.lot.quantity (drop l.from (records l.line.table)) ≡ with_earned l.earned (closing l.arrival.lot l.left (drop l.upto (records l.line.table)));
+}
