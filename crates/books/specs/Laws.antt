@@ -1,13 +1,10 @@
 -- What booking trades does, in the words of the trade, and what it asks of the trades and of the tables.
-use Rattle.std.specs.Prelude.{◌≡◌, ℕ, ◌+◌, ◌*◌, ◌<◌, ◌≤◌, true, List, length, ℤ, ◌+ℤ◌}
+use Rattle.std.specs.Prelude.{◌≡◌, ℕ, ◌+◌, ◌*◌, ◌<◌, ◌≤◌, true, List, length, ◌+ℤ◌}
 use Rattle.std.specs.List.{AllByRecursion}
-use Rattle.line.specs.Tables.{records, Within}
-use Rattle.line.specs.declared.table.Table.{Table}
 use Rattle.market.specs.Calendar.{contract_number, in_house}
 use Rattle.market.specs.declared.calendar.Contract.{Contract}
 use Rattle.market.specs.declared.records.Lot.{Lot}
 use Rattle.market.specs.declared.records.Trade.{Trade}
-use Rattle.lots.specs.Lots.{LotsKept}
 use Rattle.books.specs.Books.{Books, net_in, money_in, weight_in, month_weight}
 use Rattle.books.specs.Given.{net_given, money_given}
 
@@ -22,12 +19,9 @@ pub record Bookable (members : ℕ) (c : Contract) (t : Trade) : Type 0 where
   pub priced : 1 ≤ t.price
   pub dear : t.price ≤ 4000000
 
--- tables at which trades can be booked from a number on the tape on: the lots are kept and come from trades before it, and every member has its results
-pub record Ready (members years number : ℕ) (lots : Table Lot) (results : Table ℤ) : Type 0 where
-  pub kept : LotsKept lots
-  pub older : AllByRecursion (λ l. l.tape < number) (records lots)
-  pub within : Within results
-  pub counted : results.used ≡ members * (17 * years)
+-- trades can be booked from a number on the tape on: the lots come from trades before it
+abbrev pub Ready : ℕ → List Lot → Type 0
+Ready number lots = AllByRecursion (λ l. l.tape < number) lots
 
 -- no member's books in a contract weigh more than a bound
 abbrev pub WeighAtMost : ℕ → ℕ → ℕ → Contract → Books → Type 0

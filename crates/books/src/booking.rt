@@ -1,73 +1,56 @@
 // How what a trade brings is booked: a lot arrives at the lots and results of its member.
-ghost use Rattle.std.specs.Prelude.{◌≡◌, suc, ◌+◌, ◌-◌, ◌*◌, ◌<◌, ◌≤◌, true, length, drop};
-ghost use Rattle.std.specs.List.{AllByRecursion};
+ghost use Rattle.std.specs.Prelude.{◌≡◌, ◌+◌, ◌<◌, ◌≤◌, true, length};
 ghost use Rattle.line.specs.Lines.{Free};
-ghost use Rattle.line.specs.Tables.{records, whole, behind, Within, Room};
+ghost use Rattle.line.specs.Tables.{records, whole, behind, Room, StaysLent};
 ghost use Rattle.market.specs.Calendar.{in_house, contract_number};
 ghost use Rattle.market.specs.Places.{lot_place};
-ghost use Rattle.lots.specs.Lots.{fit, LotsKept};
-ghost use Rattle.books.specs.Books.{books_in, arrival, bought_lot, sold_lot, booked, booked_from};
-ghost use Rattle.books.specs.Laws.{Bookable, Ready, WeighAtMost, WeighMore, TradesBooked};
+ghost use Rattle.market.specs.declared.records.Side.TheVariants.{Buy, Sell};
+ghost use Rattle.market.specs.Records.{no_lot};
+ghost use Rattle.books.specs.Books.{arrival, bought_lot, sold_lot};
+ghost use Rattle.books.specs.Laws.{WeighAtMost};
+ghost use Rattle.books.specs.View.{books_of};
 
+use crate::books::Books;
 use crate::indices::result_index;
-use line::Table;
-use lots::arrive;
+use lots::Arrival;
 use market::{Contract, Lot, Side, Trade};
 
-// What a trade brings its buyer.
-fn bought_lot(trade: &Trade, tape: u32) -> Lot
-    ensures { result ≡ bought_lot tape trade.now }
+// What a trade brings its member on a side.
+fn brought(trade: &Trade, side: Side, tape: u32) -> Lot
+    ensures bought { side ≡ Buy → result ≡ bought_lot tape trade.now }
+    ensures sold { side ≡ Sell → result ≡ sold_lot tape trade.now }
 {
     Lot {
         contract: trade.contract,
-        member: trade.buyer,
+        member: match side {
+            Side::Buy => trade.buyer,
+            _ => trade.seller,
+        },
         tape,
-        side: Side::Buy,
+        side,
         quantity: trade.quantity,
         price: trade.price,
     }
 }
 
-// What a trade brings its seller.
-fn sold_lot(trade: &Trade, tape: u32) -> Lot
-    ensures { result ≡ sold_lot tape trade.now }
-{
-    Lot {
-        contract: trade.contract,
-        member: trade.seller,
-        tape,
-        side: Side::Sell,
-        quantity: trade.quantity,
-        price: trade.price,
+impl Books<'_> {
+    // A lot of a contract arrives at the books of its member.
+    fn book_lot(&mut self, contract: Contract, arriving: Arrival)
+        requires house { in_house self.old.years contract ≡ true }
+        requires member { arriving.lot.member < self.old.members }
+        requires contract { arriving.lot.contract ≡ contract_number contract }
+        requires free { Free lot_place arriving.lot (records self.old.lots.line.table) }
+        requires room { Room self.old.lots.line.table }
+        requires weighed { WeighAtMost 1000000000000000 self.old.members self.old.years contract (books_of self.old) }
+        ensures does { books_of self.new ≡ arrival self.old.years contract arriving.lot (books_of self.old) }
+        ensures lent { StaysLent no_lot self.old.lots.line.table self.new.lots.line.table }
+        ensures loan { self.new.results.places.ghost_name ≡ self.old.results.places.ghost_name }
+        ensures length { length (whole self.new.results) ≡ length (whole self.old.results) }
+        ensures used { self.new.lots.line.table.used ≤ self.old.lots.line.table.used + 1 }
+        ensures behind { behind self.new.results ≡ behind self.old.results }
+        ensures size { (self.new.members ≡ self.old.members) × (self.new.years ≡ self.old.years) }
+    {
+        let index = result_index(self.years, arriving.lot.member, contract);
+        self.lots.arrive(&mut self.results, arriving, index);
     }
-}
-
-// A lot of a contract arrives at the books of its member.
-fn book_lot(
-    lots: &mut Table<'_, Lot>,
-    results: &mut Table<'_, i64>,
-    members: u8,
-    years: u8,
-    contract: Contract,
-    lot: Lot,
-)
-    requires house { (years ≤ 4) × (in_house years contract ≡ true) }
-    requires kept { LotsKept lots.old }
-    requires within { Within results.old }
-    requires counted { results.old.used ≡ members * (17 * years) }
-    requires member { lot.member < members }
-    requires contract { lot.contract ≡ contract_number contract }
-    requires fit { fit lot ≡ true }
-    requires free { Free lot_place lot (records lots.old) }
-    requires room { Room lots.old }
-    requires weighed { WeighAtMost 1000000000000000 members years contract (books_in lots.old results.old) }
-    ensures does { books_in lots.new results.new ≡ arrival years contract lot (books_in lots.old results.old) }
-    ensures loans { (lots.new.places.ghost_name ≡ lots.old.places.ghost_name) × (results.new.places.ghost_name ≡ results.old.places.ghost_name) }
-    ensures lengths { (length (whole lots.new) ≡ length (whole lots.old)) × (length (whole results.new) ≡ length (whole results.old)) }
-    ensures used { (lots.new.used ≤ lots.old.used + 1) × (results.new.used ≡ results.old.used) }
-    ensures behind { behind results.new ≡ behind results.old }
-    ensures kept { LotsKept lots.new }
-{
-    let index = result_index(years, lot.member, contract);
-    arrive(lots, results, lot, index);
 }

@@ -2,6 +2,8 @@
 #![tactic(auto)]
 
 mod booking;
+mod books;
 mod indices;
 
+pub use books::Books;
 pub use indices::result_index;
