@@ -1,9 +1,9 @@
 -- What contracts add to a requirement: by a contract's state, and summed over the slots.
-use Rattle.std.proofs.Common.{◌≡◌, ℕ, zero, suc, ◌+◌, ◌-◌, ◌*◌, ◌<◌, ◌≤◌, true, false, ◌⊎◌, map, ℤ, pos, negsuc, ◌+ℤ◌, neg_ℤ, nat_abs, sym, refl, ap, ◌∙◌, subst, inl, inr, mul-le-mul, arith, w64, to_z, of_z}
-use lib.Signed.{lt_z}
+use Rattle.std.proofs.Common.{◌≡◌, ℕ, zero, suc, ◌+◌, ◌-◌, ◌*◌, ◌<◌, ◌≤◌, ◌⊎◌, map, ℤ, pos, negsuc, ◌+ℤ◌, neg_ℤ, nat_abs, sym, refl, ap, ◌∙◌, subst, inl, inr, mul-le-mul, arith, w64, to_z, of_z}
 use borrow.Author.Differences.{ints}
 use mir.Syntax.{w128}
-use Rattle.std.proofs.lemmas.Bool.{ltb-false}
+use Rattle.std.specs.Int.{int_max}
+use Rattle.std.proofs.lemmas.Int.{int_max_is}
 use Rattle.market.specs.Calendar.{gas_days, contract_at, contracts_of, numbers_from}
 use Rattle.market.specs.declared.calendar.Contract.{Contract}
 use Rattle.market.specs.declared.state.ContractState.{ContractState}
@@ -119,11 +119,19 @@ more_128 b r x y z h k hb hr le e d =
     let s : to_z w128 (of_z w128 (to_z w128 b +ℤ to_z w128 (of_z w128 r))) ≡ to_z w128 b +ℤ r = omega (arith, ints) in
     (subst (λ (v : ℤ). nat_abs v ≤ h + k) (sym s) (omega (arith, ints)), subst (λ (v : ℤ). x ≡ v +ℤ z) (sym s) (omega (arith, ints)))
 
--- what is added, where it is above 0 and where it is not
-pub above_zero : (z : ℤ) → lt_z (pos 0) z ≡ true → nat_abs z ≡ positive_part z
-above_zero (pos n) h = refl
-above_zero (negsuc n) h = let z : ◌≡◌ {A = ℕ} 0 1 = cc in absurd (omega arith)
+-- the greater of a sum and 0 is its positive part, as the machine forms it
+max_zero : (z : ℤ) → nat_abs (int_max z (pos 0)) ≡ positive_part z
+max_zero (pos n) = omega (arith, ints, int_max_is (pos n) (pos 0))
+max_zero (negsuc n) = omega (arith, ints, int_max_is (negsuc n) (pos 0))
 
-pub not_above_zero : (z : ℤ) → lt_z (pos 0) z ≡ false → positive_part z ≡ 0
-not_above_zero (pos n) h = omega (arith, ltb-false 0 n h)
-not_above_zero (negsuc n) h = refl
+pub or_zero : (z m : ℤ) → nat_abs z ≤ 10118400000000000000 → m ≡ int_max (to_z w128 (of_z w128 z)) (pos 0) → nat_abs (to_z w128 (of_z w128 m)) ≡ positive_part z
+or_zero z m h e =
+    let back : to_z w128 (of_z w128 z) ≡ z = omega (arith, ints) in
+    let same : nat_abs m ≡ positive_part z = ap nat_abs (e ∙ ap (λ v. int_max v (pos 0)) back) ∙ max_zero z in
+    let small : positive_part z ≤ nat_abs z = positive_within z in
+    let again : to_z w128 (of_z w128 m) ≡ m = omega (arith, ints) in
+    ap nat_abs again ∙ same
+  where
+    positive_within : (z : ℤ) → positive_part z ≤ nat_abs z
+    positive_within (pos n) = omega arith
+    positive_within (negsuc n) = omega arith

@@ -1,25 +1,13 @@
 -- Looking at contracts that stand next to each other, one after the other.
-use Rattle.std.proofs.Common.{◌≡◌, ℕ, zero, suc, ◌+◌, ◌-◌, ◌*◌, ◌<◌, ◌≤◌, Bool, true, false, ◌||◌, List, [], ◌∷◌, ◌++◌, map, get_or, sym, refl, ap, ◌∙◌, arith}
+use Rattle.std.proofs.Common.{◌≡◌, ℕ, zero, suc, ◌+◌, ◌*◌, Bool, true, false, ◌||◌, List, [], ◌∷◌, ◌++◌, map, get_or, sym, refl, ap, ◌∙◌, arith}
 use Rattle.market.specs.Calendar.{slot, parts, part, months_of, numbers_from}
 use Rattle.market.specs.States.{is_past}
 use Rattle.market.specs.declared.calendar.Contract.{Contract}
 use Rattle.market.specs.declared.calendar.Contract.TheVariants.{Month, Quarter, Year}
-use Rattle.market.specs.declared.state.ContractState.{ContractState}
 use Rattle.market.specs.declared.state.ContractState.TheVariants.{Unlisted}
 use Rattle.history.specs.State.{State}
 use Rattle.history.specs.Standing.{any_state, past_inside, state_of}
 use Rattle.house.specs.Runs.{any_past}
-
--- the first of those left, and the others
-pub any_past_step : (states : List ContractState) (at end : ℕ) → at < end → any_past states at (end - at) ≡ (is_past (get_or states at Unlisted) || any_past states (at + 1) (end - (at + 1)))
-any_past_step states at end h =
-    let e : end - at ≡ suc (end - (at + 1)) = omega arith in
-    let f : suc at ≡ at + 1 = omega arith in
-    ap (any_past states at) e ∙ ap (λ (k : ℕ). is_past (get_or states at Unlisted) || any_past states k (end - (at + 1))) f
-
--- none is left
-pub any_past_none : (states : List ContractState) (at end : ℕ) → end ≤ at → any_past states at (end - at) ≡ false
-any_past_none states at end h = let e : end - at ≡ 0 = omega arith in ap (any_past states at) e
 
 -- contracts whose slots follow one another
 any_run : (s : State) (f : ℕ → Contract) (base : ℕ) → ((i : ℕ) → slot s.years (f i) ≡ base + i)

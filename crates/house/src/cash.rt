@@ -27,10 +27,7 @@ impl House<'_> {
     {
         self.next_phase(Event::Deposit)?;
         self.known(member)?;
-        match vault.credit(member, amount) {
-            Ok(()) => Ok(()),
-            Err(_) => Err(Refusal::Vault),
-        }
+        vault.credit(member, amount).map_err(|_| Refusal::Vault)
     }
 
     // Debits the member's account, by the rules of a withdrawal.
@@ -48,10 +45,7 @@ impl House<'_> {
         if leaves_too_little(vault.balance(member), amount, self.required(rule, member)) {
             return Err(Refusal::Cover);
         }
-        match vault.debit(member, amount) {
-            Ok(()) => Ok(()),
-            Err(_) => Err(Refusal::Vault),
-        }
+        vault.debit(member, amount).map_err(|_| Refusal::Vault)
     }
 
     // A member's cash comes in.

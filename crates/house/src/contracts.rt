@@ -1,65 +1,59 @@
 // The contracts of a house: finding one by its number, and its state and price record.
-ghost use Rattle.std.specs.Prelude.{◌≡◌, ◌+◌, ◌*◌, ◌<◌, ◌≤◌, true, IfOk, Some};
-ghost use Rattle.market.specs.Calendar.{contract_of, contract_at, in_house};
+ghost use Rattle.std.specs.Prelude.{◌≡◌, ◌+◌, ◌*◌, ◌<◌, ◌≤◌, true, IfOk, Some, map};
+ghost use Rattle.market.specs.Calendar.{contract_of, in_house};
+ghost use Rattle.market.specs.declared.state.ContractState.TheVariants.{Unlisted};
 ghost use Rattle.vault.specs.Checks.{first_that_holds};
-ghost use Rattle.history.specs.Standing.{state_of, price_of, with_contract, with_state, past_inside};
+ghost use Rattle.history.specs.Standing.{no_price, state_of, price_of, with_contract, with_state, past_inside};
 ghost use Rattle.history.specs.Calls.{Admits, found_or_refused};
 ghost use Rattle.history.specs.Listing.{contract_refusals};
-ghost use Rattle.house.specs.View.{view, price_in};
+ghost use Rattle.house.specs.View.{view, price_in, state_in};
 ghost use Rattle.house.specs.Runs.{any_past};
 
-use crate::house::House;
-use market::calendar::{MONTHS_A_YEAR, QUARTERS_A_YEAR};
+use crate::house::{House, Standing};
 use market::{Contract, ContractState, Event, Opening, Refusal};
 
+impl Standing {
+    // How every contract stands when the house opens.
+    pub(crate) fn unlisted() -> Standing
+        ensures state { result.state ≡ Unlisted }
+        ensures opening { price_in result.opening ≡ no_price }
+    {
+        Standing {
+            state: ContractState::Unlisted,
+            opening: Opening::placeholder(),
+        }
+    }
+}
+
+// That a contract is one of this house is a fact about both, so it stands in clauses and in no type.
 impl House<'_> {
     // The contract of a number.
     pub(crate) fn contract(&self, number: u8) -> Result<Contract, Refusal>
-        ensures found { result ≡ found_or_refused (contract_of number self.now.years) }
-        ensures within { IfOk result (λ c. in_house self.now.years c ≡ true) }
+        ensures found { result ≡ found_or_refused (contract_of number self.now.books.years) }
+        ensures within { IfOk result (λ c. in_house self.now.books.years c ≡ true) }
     {
-        match Contract::of(number, self.years) {
-            Some(contract) => Ok(contract),
-            None => Err(Refusal::Contract),
-        }
-    }
-
-    // The contract of a slot.
-    pub(crate) fn contract_at(&self, slot: usize) -> Contract
-        requires { slot < 17 * self.now.years }
-        ensures { result ≡ contract_at self.now.years slot }
-    {
-        let months = MONTHS_A_YEAR * self.years;
-        let behind_quarters = months + QUARTERS_A_YEAR * self.years;
-        let at = slot as u8;
-        if at < months {
-            Contract::Month(at)
-        } else if at < behind_quarters {
-            Contract::Quarter(at - months)
-        } else {
-            Contract::Year(at - behind_quarters)
-        }
+        Contract::of(number, self.books.years).ok_or(Refusal::Contract)
     }
 
     // Its state.
     pub(crate) fn state_of(&self, contract: Contract) -> ContractState
-        requires { in_house self.now.years contract ≡ true }
+        requires { in_house self.now.books.years contract ≡ true }
         ensures { result ≡ state_of (view self.now) contract }
     {
-        self.states[contract.slot(self.years)]
+        self.contracts[contract.slot(self.books.years)].state
     }
 
     // Its price record.
     pub(crate) fn price_of(&self, contract: Contract) -> Opening
-        requires { in_house self.now.years contract ≡ true }
+        requires { in_house self.now.books.years contract ≡ true }
         ensures { price_in result ≡ price_of (view self.now) contract }
     {
-        self.prices[contract.slot(self.years)]
+        self.contracts[contract.slot(self.books.years)].opening
     }
 
     // A contract that a call of this event may name: the checks of the phase, the number and the state.
     pub(crate) fn contract_for(&self, event: Event, number: u8) -> Result<Contract, Refusal>
-        ensures { Admits result (first_that_holds (contract_refusals (view self.now) event number)) (λ c. (contract_of number self.now.years ≡ Some c) × (in_house self.now.years c ≡ true)) }
+        ensures { Admits result (first_that_holds (contract_refusals (view self.now) event number)) (λ c. (contract_of number self.now.books.years ≡ Some c) × (in_house self.now.books.years c ≡ true)) }
     {
         self.next_phase(event)?;
         let contract = self.contract(number)?;
@@ -72,38 +66,36 @@ impl House<'_> {
     // Whether one of so many contracts from a slot on is delivering or ended.
     fn any_past(&self, from: usize, count: usize) -> bool
         requires { from + count ≤ 68 }
-        ensures { result ≡ any_past self.now.states from count }
+        ensures { result ≡ any_past (map state_in self.now.contracts) from count }
     {
-        for at in from..from + count {
-            if self.states[at].is_past() {
-                return true;
-            }
-        }
-        false
+        self.contracts[from..from + count]
+            .iter()
+            .any(|contract| contract.state.is_past())
     }
 
     // Whether a month or a quarter inside a contract is delivering or ended.
     pub(crate) fn past_inside(&self, contract: Contract) -> bool
-        requires { in_house self.now.years contract ≡ true }
+        requires { in_house self.now.books.years contract ≡ true }
         ensures { result ≡ past_inside (view self.now) contract }
     {
         match contract {
             Contract::Month(_) => false,
-            Contract::Quarter(quarter) => self.any_past(3 * quarter as usize, 3),
+            Contract::Quarter(quarter) => self.any_past(3 * usize::from(quarter), 3),
             Contract::Year(year) => {
-                let quarters = 12 * self.years as usize + 4 * year as usize;
-                self.any_past(quarters, 4) || self.any_past(12 * year as usize, 12)
+                let at = usize::from(year);
+                let quarters = 12 * usize::from(self.books.years) + 4 * at;
+                self.any_past(quarters, 4) || self.any_past(12 * at, 12)
             }
         }
     }
 
     // Gives a contract another state.
     pub(crate) fn set_state(&mut self, contract: Contract, state: ContractState)
-        requires { in_house self.old.years contract ≡ true }
+        requires { in_house self.old.books.years contract ≡ true }
         ensures { view self.new ≡ with_state (view self.old) contract state }
     {
-        let at = contract.slot(self.years);
-        self.states[at] = state;
+        let at = contract.slot(self.books.years);
+        self.contracts[at].state = state;
     }
 
     // Gives a contract another state and price record.
@@ -113,11 +105,10 @@ impl House<'_> {
         state: ContractState,
         opening: Opening,
     )
-        requires { in_house self.old.years contract ≡ true }
+        requires { in_house self.old.books.years contract ≡ true }
         ensures { view self.new ≡ with_contract (view self.old) contract state (price_in opening) }
     {
-        let at = contract.slot(self.years);
-        self.states[at] = state;
-        self.prices[at] = opening;
+        let at = contract.slot(self.books.years);
+        self.contracts[at] = Standing { state, opening };
     }
 }

@@ -1,41 +1,43 @@
-// The house as a type: the four lent tables, the phase, and the size it was opened with.
-ghost use Rattle.std.specs.Prelude.{◌≡◌, ◌*◌, ◌≤◌, true, length, pos};
-ghost use Rattle.line.specs.Lines.{in_line, each};
+// The house as a type: the lent tables, the phase, and the size it was opened with.
+ghost use Rattle.std.specs.Prelude.{◌≡◌, length, pos};
 ghost use Rattle.line.specs.Tables.{records};
-ghost use Rattle.market.specs.Places.{lot_place};
 ghost use Rattle.market.specs.Records.{no_order, no_lot, no_trade};
-ghost use Rattle.lots.specs.Lots.{fit, one_sided};
-ghost use Rattle.house.specs.Sound.{Sound, Sized, Memberless, Dated, Weighed};
+ghost use Rattle.house.specs.Sound.{Sound, Limited, Sized, Memberless, Dated, Weighed};
 
-use line::Table;
-use market::{ContractState, Lot, Opening, Order, Phase, Trade};
+use books::Books;
+use line::{Line, Table};
+use market::{ContractState, Opening, Order, Phase, Trade};
 
+// A house of the most years has so many contracts.
+pub(crate) const SLOTS: usize = 68;
+
+// How a contract stands: its state, and its price record, or a placeholder if it was never listed.
+#[derive(Clone, Copy)]
+pub(crate) struct Standing {
+    pub(crate) state: ContractState,
+    pub(crate) opening: Opening,
+}
+
+// Before the opening it has no members and no years, as its state says: an Option about them would say the phase twice.
 #[derive(Drop)]
 pub struct House<'a> {
-    pub(crate) orders: Table<'a, Order>,
-    pub(crate) lots: Table<'a, Lot>,
+    pub(crate) orders: Line<'a, Order>,
+    pub(crate) books: Books<'a>,
     pub(crate) tape: Table<'a, Trade>,
-    pub(crate) results: Table<'a, i64>, // kuruş per gas day, member by member
     pub(crate) phase: Phase,
-    pub(crate) members: u8,
     pub(crate) first_year: u16,
-    pub(crate) years: u8,
     pub(crate) next_number: u32, // of the next accepted order
-    pub(crate) states: [ContractState; 68], // by slot
-    pub(crate) prices: [Opening; 68], // by slot; a placeholder for a contract that was never listed
-    ghost waiting: { Sound no_order phase orders },
-    ghost holding: { Sound no_lot phase lots },
+    pub(crate) contracts: [Standing; SLOTS], // by slot
+    ghost waiting: { Sound no_order phase orders.table },
+    ghost holding: { Sound no_lot phase books.lots.line.table },
     ghost taped: { Sound no_trade phase tape },
-    ghost earned: { Sound (pos 0) phase results },
-    ghost lined: { in_line lot_place (records lots) ≡ true },
-    ghost fitting: { each fit (records lots) ≡ true },
-    ghost sided: { one_sided (records lots) ≡ true },
-    ghost counted: { results.used ≡ members * (17 * years) },
-    ghost weighed: { Weighed members years results lots tape },
-    ghost sized: { Sized phase members },
-    ghost vacant: { Memberless phase members },
-    ghost dated: { Dated phase first_year years },
-    ghost few: { years ≤ 4 },
-    ghost stated: { length states ≡ 68 },
-    ghost priced: { length prices ≡ 68 },
+    ghost earned: { Sound (pos 0) phase books.results },
+    ghost few_orders: { Limited 256 phase orders.table },
+    ghost few_lots: { Limited 8192 phase books.lots.line.table },
+    ghost few_trades: { Limited 4096 phase tape },
+    ghost weighed: { Weighed books tape },
+    ghost sized: { Sized phase books.members },
+    ghost vacant: { Memberless phase books.members },
+    ghost dated: { Dated phase first_year books.years },
+    ghost slots: { length contracts ≡ 68 },
 }

@@ -25,12 +25,10 @@ pub(crate) struct Listing {
 impl House<'_> {
     // The checks of a listing.
     fn may_list(&self, number: u8, price: u32, rate: u32) -> Result<Listing, Refusal>
-        ensures { Admits result (first_that_holds (listing_refusals (view self.now) number price rate)) (λ l. (contract_of number self.now.years ≡ Some l.contract) × (in_house self.now.years l.contract ≡ true) × (price_in l.opening ≡ record { price = price; rate = rate })) }
+        ensures { Admits result (first_that_holds (listing_refusals (view self.now) number price rate)) (λ l. (contract_of number self.now.books.years ≡ Some l.contract) × (in_house self.now.books.years l.contract ≡ true) × (price_in l.opening ≡ record { price = price; rate = rate })) }
     {
         let contract = self.contract_for(Event::List, number)?;
-        let Some(opening) = Opening::new(price, rate) else {
-            return Err(Refusal::BasePrice);
-        };
+        let opening = Opening::new(price, rate).ok_or(Refusal::BasePrice)?;
         if self.past_inside(contract) {
             return Err(Refusal::PastInside);
         }
@@ -75,12 +73,13 @@ impl House<'_> {
 
     // The checks of a resumption.
     fn may_resume(&self, number: u8, price: u32) -> Result<Listing, Refusal>
-        ensures { Admits result (first_that_holds (resuming_refusals (view self.now) number price)) (λ l. (contract_of number self.now.years ≡ Some l.contract) × (in_house self.now.years l.contract ≡ true) × (price_in l.opening ≡ record { price = price; rate = (price_of (view self.now) l.contract).rate })) }
+        ensures { Admits result (first_that_holds (resuming_refusals (view self.now) number price)) (λ l. (contract_of number self.now.books.years ≡ Some l.contract) × (in_house self.now.books.years l.contract ≡ true) × (price_in l.opening ≡ record { price = price; rate = (price_of (view self.now) l.contract).rate })) }
     {
         let contract = self.contract_for(Event::Resume, number)?;
-        let Some(opening) = self.price_of(contract).with_price(price) else {
-            return Err(Refusal::BasePrice);
-        };
+        let opening = self
+            .price_of(contract)
+            .with_price(price)
+            .ok_or(Refusal::BasePrice)?;
         Ok(Listing { contract, opening })
     }
 

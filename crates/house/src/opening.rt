@@ -1,23 +1,23 @@
 // Lending a house its tables, and opening it.
 ghost use Rattle.std.specs.Prelude.{◌≡◌, ◌≤◌};
 ghost use Rattle.line.specs.Tables.{places};
-ghost use Rattle.market.specs.declared.phase.Phase.TheVariants.{Evening};
-ghost use Rattle.history.specs.Calls.{outcome, refusal, outside, figures, wrong_lengths, unopened, newly_opened, opening, opening_refusals, answer_unless};
+ghost use Rattle.history.specs.Calls.{outcome, refusal, figures, wrong_lengths, unopened, newly_opened, opening, opening_refusals, Admits};
 ghost use Rattle.history.specs.Laws.{Begins};
 ghost use Rattle.vault.specs.Checks.{first_that_holds};
 ghost use Rattle.house.specs.View.{view};
 
-use crate::house::House;
-use line::{Blank, Table};
-use market::{ContractState, Event, Lot, Opening, Order, Phase, Refusal, Trade};
+use crate::house::{House, SLOTS, Standing};
+use books::Books;
+use line::{Line, Table};
+use market::{Contract, Event, Lot, Order, Phase, Refusal, Trade};
 
-pub const MAX_MEMBERS: usize = 64;
+pub const MAX_MEMBERS: u8 = 64;
 
-pub const FIRST_YEAR: usize = 2020;
+pub const FIRST_YEAR: u16 = 2020;
 
-pub const LAST_FIRST_YEAR: usize = 2090;
+pub const LAST_FIRST_YEAR: u16 = 2090;
 
-pub const MAX_YEARS: usize = 4;
+pub const MAX_YEARS: u8 = 4;
 
 pub const MAX_ORDERS: usize = 256;
 
@@ -25,24 +25,21 @@ pub const MAX_LOTS: usize = 8_192;
 
 pub const MAX_TRADES: usize = 4_096;
 
-// A member has a result for each month, quarter and year: 17 for each year.
-pub const RESULTS_A_YEAR: usize = 17;
-
-// A house of the most years has so many contracts.
-const SLOTS: usize = 68;
-
-// Whether a number lies outside a range.
-fn outside(low: usize, high: usize, n: usize) -> bool
-    ensures { result ≡ outside low high n }
-{
-    n < low || n > high
+// The size that a house may open with.
+#[derive(Clone, Copy)]
+struct Size {
+    members: u8,
+    first_year: u16,
+    years: u8,
+    ghost peopled: { (1 ≤ members) × (members ≤ 64) },
+    ghost dated: { (2020 ≤ first_year) × (first_year ≤ 2090) × (1 ≤ years) × (years ≤ 4) },
 }
 
 // How many results a house of this size has.
 fn figures(members: u8, years: u8) -> usize
     ensures { result ≡ figures members years }
 {
-    members as usize * (RESULTS_A_YEAR * years as usize)
+    usize::from(members) * Contract::count(years)
 }
 
 impl<'a> House<'a> {
@@ -56,17 +53,13 @@ impl<'a> House<'a> {
         ensures { view result ≡ unopened orders.old lots.old tape.old results.old }
     {
         House {
-            orders: Table::lent(orders),
-            lots: Table::lent(lots),
+            orders: Line::lent(orders),
+            books: Books::lent(lots, results),
             tape: Table::lent(tape),
-            results: Table::lent(results),
             phase: Phase::Unopened,
-            members: 0,
             first_year: 0,
-            years: 0,
             next_number: 1,
-            states: [ContractState::Unlisted; SLOTS],
-            prices: [Opening::placeholder(); SLOTS],
+            contracts: [Standing::unlisted(); SLOTS],
         }
     }
 }
@@ -76,58 +69,57 @@ impl House<'_> {
     fn wrong_lengths(&self, members: u8, years: u8) -> bool
         ensures { result ≡ wrong_lengths (view self.now) members years }
     {
-        outside(1, MAX_ORDERS, self.orders.length())
-            || outside(1, MAX_LOTS, self.lots.length())
-            || outside(1, MAX_TRADES, self.tape.length())
-            || self.results.length() < figures(members, years)
+        !(1..=MAX_ORDERS).contains(&self.orders.table.length())
+            || !(1..=MAX_LOTS).contains(&self.books.lots.line.table.length())
+            || !(1..=MAX_TRADES).contains(&self.tape.length())
+            || self.books.results.length() < figures(members, years)
     }
 
-    // Why the house cannot open so, or nothing.
-    fn may_open(&self, members: u8, first_year: u16, years: u8) -> Result<Phase, Refusal>
-        ensures { result ≡ answer_unless (first_that_holds (opening_refusals (view self.now) members first_year years)) Evening }
+    // The checks of an opening.
+    fn may_open(&self, members: u8, first_year: u16, years: u8) -> Result<Size, Refusal>
+        ensures { Admits result (first_that_holds (opening_refusals (view self.now) members first_year years)) (λ size. (size.members ≡ members) × (size.first_year ≡ first_year) × (size.years ≡ years)) }
     {
-        let phase = self.next_phase(Event::Open)?;
-        if outside(1, MAX_MEMBERS, members as usize) {
+        self.next_phase(Event::Open)?;
+        if !(1..=MAX_MEMBERS).contains(&members) {
             return Err(Refusal::MemberCount);
         }
-        if outside(FIRST_YEAR, LAST_FIRST_YEAR, first_year as usize)
-            || outside(1, MAX_YEARS, years as usize)
-        {
+        if !(FIRST_YEAR..=LAST_FIRST_YEAR).contains(&first_year) {
+            return Err(Refusal::Calendar);
+        }
+        if !(1..=MAX_YEARS).contains(&years) {
             return Err(Refusal::Calendar);
         }
         if self.wrong_lengths(members, years) {
             return Err(Refusal::TableLength);
         }
-        Ok(phase)
+        Ok(Size {
+            members,
+            first_year,
+            years,
+        })
     }
 
     // Blanks the four tables to their full length, and sets the house's size.
-    fn begin(&mut self, members: u8, first_year: u16, years: u8)
-        requires size { (1 ≤ members) × (members ≤ 64) }
-        requires dates { (2020 ≤ first_year) × (first_year ≤ 2090) × (1 ≤ years) × (years ≤ 4) }
-        requires room { figures members years ≤ places (view self.old).results }
-        ensures { view self.new ≡ newly_opened (view self.old) members first_year years }
+    fn begin(&mut self, size: Size)
+        requires room { figures size.members size.years ≤ places (view self.old).results }
+        requires lengths { (places (view self.old).orders ≤ 256) × (places (view self.old).lots ≤ 8192) × (places (view self.old).tape ≤ 4096) }
+        ensures { view self.new ≡ newly_opened (view self.old) size.members size.first_year size.years }
     {
-        let results = figures(members, years);
-        self.orders.clear(0);
-        self.lots.clear(0);
+        self.orders.clear();
+        self.books.clear(size.members, size.years);
         self.tape.clear(0);
-        self.results.clear(results);
         self.phase = Phase::Evening;
-        self.members = members;
-        self.first_year = first_year;
-        self.years = years;
+        self.first_year = size.first_year;
         self.next_number = 1;
-        self.states = [ContractState::Unlisted; SLOTS];
-        self.prices = [Opening::placeholder(); SLOTS];
+        self.contracts = [Standing::unlisted(); SLOTS];
     }
 
     // Opens the house, or says why not.
     fn try_open(&mut self, members: u8, first_year: u16, years: u8) -> Result<(), Refusal>
         ensures { outcome result (view self.new) ≡ opening (view self.old) members first_year years }
     {
-        self.may_open(members, first_year, years)?;
-        self.begin(members, first_year, years);
+        let size = self.may_open(members, first_year, years)?;
+        self.begin(size);
         Ok(())
     }
 

@@ -10,8 +10,7 @@ ghost use Rattle.history.specs.Laws.{Continues};
 ghost use Rattle.house.specs.View.{view};
 
 use crate::house::House;
-use line::Table;
-use market::{Event, Lot, Order, Phase, Refusal, Trade};
+use market::{Event, Phase, Refusal};
 
 impl House<'_> {
     // The phase that an event leads to; a call that is not taken now is refused.
@@ -37,12 +36,11 @@ impl House<'_> {
         }
     }
 
-    // Goes on to the next phase of the day.
+    // Goes on to the next phase of the day: what each clause of `step` follows from, here as in the other calls.
     fn go_on(&mut self) -> Result<(), Refusal>
         ensures { outcome result (view self.new) ≡ stepping (view self.old) }
     {
-        let phase = self.next_phase(Event::Step)?;
-        self.phase = phase;
+        self.phase = self.next_phase(Event::Step)?;
         Ok(())
     }
 

@@ -1,43 +1,38 @@
 // Views: what a house shows of itself. They are no calls, refuse nothing, and are empty before the opening.
-ghost use Rattle.std.specs.Prelude.{◌≡◌, false, []};
-ghost use Rattle.market.specs.Phases.{is_open};
-ghost use Rattle.house.specs.View.{view};
+ghost use Rattle.std.specs.Prelude.{◌≡◌};
+ghost use Rattle.house.specs.View.{Shows, view};
 
 use crate::house::House;
-use line::Table;
 use market::{Lot, Order, Phase, Trade};
 
+// Four, since each shows records of its own type.
 impl House<'_> {
     // The resting orders.
     pub fn orders(&self) -> &[Order]
-        ensures shows { result.now ≡ (view self.now).orders.records }
-        ensures unopened { is_open self.now.phase ≡ false → result.now ≡ [] }
+        ensures { Shows result.now (view self.now).orders self.now.phase }
     {
         self.orders.records()
     }
 
     // The open lots.
     pub fn lots(&self) -> &[Lot]
-        ensures shows { result.now ≡ (view self.now).lots.records }
-        ensures unopened { is_open self.now.phase ≡ false → result.now ≡ [] }
+        ensures { Shows result.now (view self.now).lots self.now.phase }
     {
-        self.lots.records()
+        self.books.lots.records()
     }
 
     // The reported trades.
     pub fn tape(&self) -> &[Trade]
-        ensures shows { result.now ≡ (view self.now).tape.records }
-        ensures unopened { is_open self.now.phase ≡ false → result.now ≡ [] }
+        ensures { Shows result.now (view self.now).tape self.now.phase }
     {
         self.tape.records()
     }
 
     // The results, member by member: months, then quarters, then years. Kuruş per gas day.
     pub fn results(&self) -> &[i64]
-        ensures shows { result.now ≡ (view self.now).results.records }
-        ensures unopened { is_open self.now.phase ≡ false → result.now ≡ [] }
+        ensures { Shows result.now (view self.now).results self.now.phase }
     {
-        self.results.records()
+        self.books.results.records()
     }
 
     // The phase of the day.

@@ -12,12 +12,12 @@ pub returns-in-Trading : goal.returns-in-Trading
 returns-in-Trading g c =
     let h = c.args.self.now in
     let units = g.R.MarginRule.units c.args.rule.now in
-    let p = c.position-position in
+    let p = c.position in
     let back = to_z-of_z w128 c.added.result (record { sfits = c.added.type_inv }) in
-    let most = days_bound h.first_year c.gas_days.result (weight p.result) c.args.contract c.gas_days.ensures p.ensures.bound in
+    let most = days_bound h.first_year c.gas_days-gas_days.result (weight p.result) c.args.contract c.gas_days-gas_days.ensures p.ensures.bound in
     let small : nat_abs c.added.result ≤ 148800000000000000 = omega (arith, c.added.ensures.weighed, most) in
     record {
-      is = back ∙ c.added.ensures.cover ∙ listed_adds units (view h) c.args.member c.args.contract c.state_of.result (price_in c.price_of-opening.result) c.gas_days.result p.result c.in-Trading.is c.state_of.ensures c.price_of-opening.ensures c.gas_days.ensures p.ensures.is;
+      is = back ∙ c.added.ensures.cover ∙ listed_adds units (view h) c.args.member c.args.contract c.state_of.result (price_in c.price_of-opening.result) c.gas_days-gas_days.result p.result c.in-Trading.is c.state_of.ensures c.price_of-opening.ensures c.gas_days-gas_days.ensures p.ensures.is;
       bound = subst (λ (z : ℤ). nat_abs z ≤ 148800000000000000) (sym back) small;
     }
 
@@ -25,8 +25,8 @@ pub returns-in-Delivering : goal.returns-in-Delivering
 returns-in-Delivering g c =
     let h = c.args.self.now in
     let units = g.R.MarginRule.units c.args.rule.now in
-    let p = c.position-position-in-Delivering in
-    let days = c.gas_days-in-Delivering in
+    let p = c.position-in-Delivering in
+    let days = c.gas_days-gas_days-in-Delivering in
     let most = loss_bound h.first_year days.result c.args.contract p.result days.ensures p.ensures.bound in
     let small : c.loss.result ≤ 148800000000000000 = omega (arith, c.loss.ensures.cover, most) in
     let back : to_z w128 c.loss.result ≡ pos c.loss.result = omega (arith, ints) in

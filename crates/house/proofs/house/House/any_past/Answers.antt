@@ -1,20 +1,16 @@
-use Rattle.std.proofs.Common.{◌≡◌, ◌+◌, ◌-◌, Bool, ◌||◌, sym, ap, ◌∙◌, arith}
-use Rattle.house.specs.Runs.{any_past}
-use Rattle.house.proofs.Runs.{any_past_step, any_past_none}
+-- The contracts from the slot on are a part of the list, and one of them passes or none.
+use Rattle.std.proofs.Common.{◌≡◌, ℕ, ◌+◌, ◌-◌, take, drop, sym, ap, ◌∙◌, arith, rules, tests}
+use Rattle.std.proofs.lemmas.Iterator.{YieldsList-from_slice}
+use Rattle.std.proofs.lemmas.Iterator.Search.{any_from_yields_List}
+use Rattle.market.specs.States.{is_past}
+use Rattle.house.proofs.Standings.{any_past_of}
 use Rattle.house.proofs.house.House.any_past.Goals as goal
 
-pub loop-at-init : goal.loop-at-init
-loop-at-init c = let e : c.args.from + c.args.count - c.args.from ≡ c.args.count = omega arith in ap (any_past c.args.self.now.states c.args.from) e
-
-pub loop-at-preserved : goal.loop-at-preserved
-loop-at-preserved c =
-    let states = c.args.self.now.states in let at = c.loop-at.at in let end = c.args.from + c.args.count in
-    ap (λ (b : Bool). b || any_past states (at + 1) (end - (at + 1))) c.if-is_past.ensures ∙ sym (any_past_step states at end c.loop-at-test.true) ∙ c.loop-at.invariant
-
-pub returns-then-is_past : goal.returns-then-is_past
-returns-then-is_past c =
-    let states = c.args.self.now.states in let at = c.loop-at.at in let end = c.args.from + c.args.count in
-    ap (λ (b : Bool). b || any_past states (at + 1) (end - (at + 1))) c.if-is_past.ensures ∙ sym (any_past_step states at end c.loop-at-test.true) ∙ c.loop-at.invariant
-
 pub returns : goal.returns
-returns c = sym (any_past_none c.args.self.now.states c.loop-at.at (c.args.from + c.args.count) c.loop-at-test.false) ∙ c.loop-at.invariant
+returns c =
+    let a = c.args in
+    let cs = a.self.now.contracts in
+    let same : a.from + a.count - a.from ≡ a.count = omega arith in
+    let part : c.iter.result.rest.now ≡ take a.count (drop a.from cs) = c.iter.ensures.rest ∙ ap (λ (k : ℕ). take k (drop a.from cs)) same in
+    any_from_yields_List (λ k. is_past k.state) _ _ _ c.any.ensures.ran (YieldsList-from_slice (take a.count (drop a.from cs)) part) (λ x b q k. search (rules, tests))
+    ∙ sym (any_past_of cs a.from a.count (omega (arith, c.requires, a.self.now.slots)))

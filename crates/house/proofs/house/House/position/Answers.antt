@@ -13,23 +13,22 @@ pub returns : goal.returns
 unfolding position
 returns c =
     let h = c.args.self.now in
-    let held = c.position_of-held in
+    let held = c.holding-held in
     let n = in_64 held.result.net (omega (arith, held.ensures.small)) in
     let v = in_64 held.result.value (omega (arith, held.ensures.bound)) in
     let r = in_64 c.result_of.result (omega (arith, c.result_of.ensures.bound)) in
-    let number = c.number.ensures in
+    let number = c.from.ensures in
     let is = same_position held.result.net _ c.result_of.result _ held.result.value _
-    (held.ensures.net ∙ ap (λ (k : ℕ). net c.args.member k (records h.lots)) number)
+    (held.ensures.net ∙ ap (λ (k : ℕ). net c.args.member k (records h.books.lots.line.table)) number)
     c.result_of.ensures.is
-    (held.ensures.value ∙ ap (λ (k : ℕ). value c.args.member k (records h.lots)) number) in
+    (held.ensures.value ∙ ap (λ (k : ℕ). value c.args.member k (records h.books.lots.line.table)) number) in
     let same = same_position _ held.result.net _ c.result_of.result _ held.result.value n r v in
     record {
       is = same ∙ is;
       bound = subst (λ (q : Position). weight q ≤ 400000000000000) (sym same) (weighs held.result.net c.result_of.result held.result.value held.ensures.small held.ensures.bound c.result_of.ensures.bound);
     }
 
-pub position_of-held-requires-clause-kept : goal.position_of-held-requires-clause-kept
-position_of-held-requires-clause-kept c =
+pub holding-held-requires : goal.holding-held-requires
+holding-held-requires c =
     let h = c.args.self.now in
-    let opened = opened_by h.phase h.members c.args.member h.vacant c.requires.member in
-    record { sound = (h.holding.0, h.lined, h.holding.2 opened); fitting = h.fitting; sided = h.sided }
+    h.few_lots (opened_by h.phase h.books.members c.args.member h.vacant c.requires.member)
