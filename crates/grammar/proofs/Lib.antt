@@ -1,3 +1,4 @@
 pub mod Cutting
 pub mod Lender
 pub mod Reading
+pub mod Spelled

@@ -1,5 +1,6 @@
 -- Reading a number byte by byte, held down to the most at each, reads the number that the whole word writes.
-use Rattle.std.proofs.Common.{◌≡◌, ℕ, ◌+◌, ◌-◌, ◌*◌, ◌<◌, ◌≤◌, min, Bool, true, false, cond, ◌&&◌, List, [], ◌∷◌, length, get_or, drop, Some, None, Option, sym, refl, ◌∙◌, arith}
+use Rattle.std.proofs.Common.{◌≡◌, ℕ, ◌+◌, ◌-◌, ◌*◌, ◌<◌, ◌≤◌, min, true, false, cond, List, [], ◌∷◌, length, get_or, drop, Some, None, Option, inl, inr, sym, refl, ◌∙◌, arith}
+use Rattle.std.proofs.lemmas.Bool.{cases_Bool}
 use Rattle.std.proofs.lemmas.List.{drop_more, drop_all}
 use Rattle.grammar.specs.Numbers.{is_digit, all_digits, written_behind, number_up_to}
 
@@ -11,15 +12,14 @@ read most number (byte ∷ bytes) = cond (is_digit byte) (read most (min (number
 held_down : (most n d : ℕ) → min (min n most * 10 + d) most ≡ min (n * 10 + d) most
 held_down most n d = omega arith
 
-either : (most n d : ℕ) (bytes : List ℕ) (b : Bool) → read most (min (n * 10 + d) most) bytes ≡ cond (all_digits bytes) (Some (min (written_behind (n * 10 + d) bytes) most)) None → cond b (read most (min (min n most * 10 + d) most) bytes) None ≡ cond (b && all_digits bytes) (Some (min (written_behind (n * 10 + d) bytes) most)) None
-either most n d bytes true rest = rw (held_down most n d) rest
-either most n d bytes false rest = refl
-
 read_held : (most n : ℕ) (bytes : List ℕ) → read most (min n most) bytes ≡ cond (all_digits bytes) (Some (min (written_behind n bytes) most)) None
 read_held most n [] = refl
-read_held most n (byte ∷ bytes) = either most n (byte - 48) bytes (is_digit byte) (read_held most (n * 10 + (byte - 48)) bytes)
+read_held most n (byte ∷ bytes) = elim (cases_Bool (is_digit byte)) [
+  | inl digit ↦ rw (digit, held_down most n (byte - 48)) (read_held most (n * 10 + (byte - 48)) bytes)
+  | inr other ↦ rw other refl
+]
 
-pub read_whole : (most : ℕ) (bytes : List ℕ) → 0 < length bytes → read most 0 bytes ≡ number_up_to most bytes
+read_whole : (most : ℕ) (bytes : List ℕ) → 0 < length bytes → read most 0 bytes ≡ number_up_to most bytes
 read_whole most [] some = absurd (omega arith)
 read_whole most (byte ∷ bytes) some =
     let none : min 0 most ≡ 0 = omega arith in

@@ -1,4 +1,5 @@
 pub mod Arguments
+pub mod Expected
 pub mod Forms
 pub mod Kinds
 pub mod Numbers

@@ -1,9 +1,8 @@
 // What the lines of a script ask for.
+ghost use Rattle.std.specs.Prelude.{◌≡◌};
+ghost use Rattle.grammar.specs.Kinds.{is_call, default_lending};
 
-// The greatest length that a script can lend.
-pub(crate) const MAX_LENGTH: u64 = 70_000;
-
-#[derive(Clone, Copy)]
+#[derive(Clone, Copy, Debug, PartialEq, Eq)]
 pub enum Command {
     Lend(Lending),
     GasRule,
@@ -44,8 +43,24 @@ pub enum Command {
     NotBuilt,
 }
 
+impl Command {
+    // Whether it calls the house.
+    pub fn is_call(self) -> bool
+        ensures { result ≡ is_call self }
+    {
+        !matches!(
+            self,
+            Command::Lend(_)
+                | Command::GasRule
+                | Command::HubRule { .. }
+                | Command::Show(_)
+                | Command::NotBuilt
+        )
+    }
+}
+
 // The lengths of the lent tables, and the vault.
-#[derive(Clone, Copy)]
+#[derive(Clone, Copy, Debug, PartialEq, Eq)]
 pub struct Lending {
     pub orders: usize,
     pub lots: usize,
@@ -54,14 +69,29 @@ pub struct Lending {
     pub vault: VaultKind,
 }
 
-#[derive(Clone, Copy)]
+// What a script that lends nothing runs on: the greatest house, with 64 members and four years.
+impl Default for Lending {
+    ghost is_default = { λ lending. lending ≡ default_lending };
+
+    fn default() -> Lending {
+        Lending {
+            orders: 256,
+            lots: 8_192,
+            tape: 4_096,
+            results: 4_352,
+            vault: VaultKind::Table,
+        }
+    }
+}
+
+#[derive(Clone, Copy, Debug, PartialEq, Eq)]
 pub enum VaultKind {
     Table,
     Journal { entries: usize },
 }
 
 // What can be shown of a house and its vault.
-#[derive(Clone, Copy)]
+#[derive(Clone, Copy, Debug, PartialEq, Eq)]
 pub enum What {
     Orders,
     Lots,
@@ -70,12 +100,3 @@ pub enum What {
     Balances,
     Phase,
 }
-
-// What a script that lends nothing runs on: the greatest house, with 64 members and four years.
-pub(crate) const DEFAULT_LENDING: Lending = Lending {
-    orders: 256,
-    lots: 8_192,
-    tape: 4_096,
-    results: 4_352,
-    vault: VaultKind::Table,
-};

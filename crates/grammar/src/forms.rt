@@ -1,11 +1,12 @@
 // The forms that a line can have, by its first word.
+ghost use Rattle.std.specs.Prelude.{◌≡◌, Some};
+ghost use Rattle.grammar.specs.Expected.{expected};
+ghost use Rattle.grammar.specs.Forms.{form_named};
 
-ghost use Rattle.std.specs.Prelude.{◌≡◌};
-ghost use Rattle.grammar.specs.Forms.{to_come, desk_form, house_form, contract_form, form_named};
+use std::error::Error;
+use std::fmt;
 
-use crate::words::is;
-
-#[derive(Clone, Copy)]
+#[derive(Clone, Copy, Debug, PartialEq, Eq)]
 pub enum Form {
     Lend,
     Rule,
@@ -22,87 +23,70 @@ pub enum Form {
     Unknown, // no call has this name
 }
 
-// Whether this word names a call that the house does not have yet.
-fn to_come(word: &[u8]) -> bool
-    ensures { result ≡ to_come word.now }
-{
-    is(word, "order")
-        || is(word, "cancel")
-        || is(word, "announce")
-        || is(word, "cascade")
-        || is(word, "close")
-        || is(word, "settle")
-        || is(word, "estimate")
-        || is(word, "calls")
-        || is(word, "books")
-}
+// The form of the lines that begin with this word.
+impl From<&[u8]> for Form {
+    ghost from_gives = { λ word form. form ≡ form_named word.now };
 
-// The form of the lines that no call of the house begins.
-fn desk_form(word: &[u8]) -> Option<Form>
-    ensures { result ≡ desk_form word.now }
-{
-    if is(word, "lend") {
-        Some(Form::Lend)
-    } else if is(word, "rule") {
-        Some(Form::Rule)
-    } else if is(word, "show") {
-        Some(Form::Show)
-    } else {
-        None
-    }
-}
-
-// The form of the calls of a house, a member or the day.
-fn house_form(word: &[u8]) -> Option<Form>
-    ensures { result ≡ house_form word.now }
-{
-    if is(word, "open") {
-        Some(Form::Open)
-    } else if is(word, "deposit") {
-        Some(Form::Deposit)
-    } else if is(word, "withdraw") {
-        Some(Form::Withdraw)
-    } else if is(word, "step") {
-        Some(Form::Step)
-    } else if is(word, "requirement") {
-        Some(Form::Requirement)
-    } else {
-        None
-    }
-}
-
-// The form of the calls that name a contract.
-fn contract_form(word: &[u8]) -> Option<Form>
-    ensures { result ≡ contract_form word.now }
-{
-    if is(word, "list") {
-        Some(Form::List)
-    } else if is(word, "halt") {
-        Some(Form::Halt)
-    } else if is(word, "resume") {
-        Some(Form::Resume)
-    } else {
-        None
+    #[tactic(auto, using(crate::proofs::Spelled::spelled))]
+    fn from(word: &[u8]) -> Form {
+        match word {
+            b"lend" => Form::Lend,
+            b"rule" => Form::Rule,
+            b"show" => Form::Show,
+            b"open" => Form::Open,
+            b"deposit" => Form::Deposit,
+            b"withdraw" => Form::Withdraw,
+            b"step" => Form::Step,
+            b"requirement" => Form::Requirement,
+            b"list" => Form::List,
+            b"halt" => Form::Halt,
+            b"resume" => Form::Resume,
+            b"order"
+            | b"cancel"
+            | b"announce"
+            | b"cascade"
+            | b"close"
+            | b"settle"
+            | b"estimate"
+            | b"calls"
+            | b"books" => Form::NotBuilt,
+            _ => Form::Unknown,
+        }
     }
 }
 
 impl Form {
-    // The form of the lines that begin with this word.
-    pub fn named(word: &[u8]) -> Form
-        ensures { result ≡ form_named word.now }
+    // What is said of a line that is not of this form.
+    fn expected(self) -> &'static str
+        ensures { result.now ≡ expected self }
     {
-        if let Some(form) = desk_form(word) {
-            return form;
+        match self {
+            Form::Lend => {
+                "expected, as the first line: lend ORDERS LOTS TAPE RESULTS table, or lend ORDERS LOTS TAPE RESULTS journal ENTRIES, each length at most 70000"
+            }
+            Form::Rule => "expected: rule gas, or rule hub TAX SHARE",
+            Form::Open => "expected: open MEMBERS YEAR YEARS",
+            Form::Deposit => "expected: deposit MEMBER AMOUNT",
+            Form::Withdraw => "expected: withdraw MEMBER AMOUNT",
+            Form::List => "expected: list CONTRACT PRICE RATE",
+            Form::Halt => "expected: halt CONTRACT",
+            Form::Resume => "expected: resume CONTRACT PRICE",
+            Form::Step => "expected: step",
+            Form::Requirement => "expected: requirement MEMBER",
+            Form::Show => "expected: show orders, lots, tape, results, balances or phase",
+            Form::NotBuilt => "not built yet",
+            Form::Unknown =>
+                "expected: lend, rule, open, deposit, withdraw, list, halt, resume, step, requirement or show",
         }
-        if let Some(form) = house_form(word) {
-            return form;
-        }
-        if let Some(form) = contract_form(word) {
-            return form;
-        }
-        if to_come(word) {
-            return Form::NotBuilt;
-        }
-        Form::Unknown
     }
 }
+
+impl fmt::Display for Form {
+    ghost output = { λ form. Some (expected form) };
+
+    fn fmt<W: fmt::Write>(&self, f: &mut fmt::Formatter<W>) -> fmt::Result {
+        f.write_str(self.expected())
+    }
+}
+
+impl Error for Form {}

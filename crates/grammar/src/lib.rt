@@ -3,14 +3,13 @@
 
 pub mod commands;
 pub mod forms;
-mod lines;
+mod kinds;
 mod numbers;
 mod parsing;
 mod words;
 
 pub use commands::{Command, Lending, VaultKind, What};
 pub use forms::Form;
-pub use lines::{begun_after, is_call, is_copied, lent_by};
+pub use kinds::{begun_after, is_copied, lent_by};
 pub use numbers::number_up_to;
-pub use parsing::parse;
-pub use words::first_line;
+pub use words::Lines;

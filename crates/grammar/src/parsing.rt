@@ -2,211 +2,118 @@
 ghost use Rattle.std.specs.Prelude.{◌≡◌};
 ghost use Rattle.std.specs.Option.{option_map};
 ghost use Rattle.grammar.specs.Forms.{asked, meaning};
-ghost use Rattle.grammar.specs.Arguments.{ended, next_length, vault_kind, lend, rule, open_house, payment, list, halt, resume, requirement, what_named, show};
+ghost use Rattle.grammar.specs.Arguments.{then, ended, vault_kind, lend, rule, what_named};
 
-use crate::commands::{Command, Lending, MAX_LENGTH, VaultKind, What};
+use crate::commands::{Command, Lending, VaultKind, What};
 use crate::forms::Form;
-use crate::words::{Rest, SPACE, cut, is, next_u8, next_u16, next_u32, next_u64, next_word};
+use crate::words::Words;
 
 // What a line asks for, or the form that was expected of it.
-pub fn parse(line: &[u8]) -> Result<Command, Form>
-    ensures { result ≡ meaning line.now }
-{
-    let (name, rest) = cut(SPACE, line);
-    let form = Form::named(name);
-    match arguments(form, rest) {
-        Some(command) => Ok(command),
-        None => Err(form),
-    }
-}
+impl TryFrom<&[u8]> for Command {
+    type Error = Form;
 
-// What a line of this form asks for, from the words behind its first; nothing where they do not fit the form.
-fn arguments(form: Form, rest: Rest<'_>) -> Option<Command>
-    ensures { result ≡ asked form (option_map (λ x. x.now) rest.entry) }
-{
-    match form {
-        Form::Lend => lend(rest),
-        Form::Rule => rule(rest),
-        Form::Open => open(rest),
-        Form::Deposit => {
-            let (member, amount) = payment(rest)?;
-            Some(Command::Deposit { member, amount })
+    ghost try_from_gives = { λ line result. result ≡ meaning line.now };
+
+    fn try_from(line: &[u8]) -> Result<Command, Form> {
+        let (name, mut words) = Words::split_first(line);
+        let form = Form::from(name);
+        match command(form, &mut words) {
+            Some(command) if words.is_empty() => Ok(command),
+            _ => Err(form),
         }
-        Form::Withdraw => {
-            let (member, amount) = payment(rest)?;
-            Some(Command::Withdraw { member, amount })
-        }
-        Form::List => list(rest),
-        Form::Halt => halt(rest),
-        Form::Resume => resume(rest),
-        Form::Step => ended(rest, Command::Step),
-        Form::Requirement => requirement(rest),
-        Form::Show => show(rest),
-        Form::NotBuilt => Some(Command::NotBuilt),
-        Form::Unknown => None,
     }
 }
 
-// The command, if no word is left.
-fn ended(rest: Rest<'_>, command: Command) -> Option<Command>
-    ensures { result ≡ ended (option_map (λ x. x.now) rest.entry) command }
+// What a line of this form asks for, if its words end where the command does; nothing where they do not fit the form.
+fn command(form: Form, words: &mut Words<'_>) -> Option<Command>
+    ensures { then result (ended words.new) ≡ asked form words.old }
 {
-    match rest {
-        None => Some(command),
-        Some(_) => None,
-    }
-}
-
-// A length that can be lent.
-fn next_length(rest: Rest<'_>) -> Option<(usize, Rest<'_>)>
-    ensures { option_map (λ p. (p.0, option_map (λ x. x.now) p.1)) result ≡ next_length (option_map (λ x. x.now) rest.entry) }
-{
-    let (length, rest) = next_u64(rest)?;
-    if length > MAX_LENGTH {
-        return None;
-    }
-    Some((length as usize, rest))
-}
-
-fn lend(rest: Rest<'_>) -> Option<Command>
-    ensures { result ≡ lend (option_map (λ x. x.now) rest.entry) }
-{
-    let (orders, rest) = next_length(rest)?;
-    let (lots, rest) = next_length(rest)?;
-    let (tape, rest) = next_length(rest)?;
-    let (results, rest) = next_length(rest)?;
-    let (vault, rest) = vault_kind(rest)?;
-    ended(
-        rest,
-        Command::Lend(Lending {
-            orders,
-            lots,
-            tape,
-            results,
-            vault,
+    Some(match form {
+        Form::Lend => Command::Lend(Lending {
+            orders: words.length()?,
+            lots: words.length()?,
+            tape: words.length()?,
+            results: words.length()?,
+            vault: vault_kind(words)?,
         }),
-    )
-}
-
-fn vault_kind(rest: Rest<'_>) -> Option<(VaultKind, Rest<'_>)>
-    ensures { option_map (λ p. (p.0, option_map (λ x. x.now) p.1)) result ≡ vault_kind (option_map (λ x. x.now) rest.entry) }
-{
-    let (word, rest) = next_word(rest)?;
-    if is(word, "table") {
-        Some((VaultKind::Table, rest))
-    } else if is(word, "journal") {
-        let (entries, rest) = next_length(rest)?;
-        Some((VaultKind::Journal { entries }, rest))
-    } else {
-        None
-    }
-}
-
-fn rule(rest: Rest<'_>) -> Option<Command>
-    ensures { result ≡ rule (option_map (λ x. x.now) rest.entry) }
-{
-    let (word, rest) = next_word(rest)?;
-    if is(word, "gas") {
-        ended(rest, Command::GasRule)
-    } else if is(word, "hub") {
-        let (tax, rest) = next_u32(rest)?;
-        let (share, rest) = next_u32(rest)?;
-        ended(rest, Command::HubRule { tax, share })
-    } else {
-        None
-    }
-}
-
-fn open(rest: Rest<'_>) -> Option<Command>
-    ensures { result ≡ open_house (option_map (λ x. x.now) rest.entry) }
-{
-    let (members, rest) = next_u8(rest)?;
-    let (first_year, rest) = next_u16(rest)?;
-    let (years, rest) = next_u8(rest)?;
-    ended(
-        rest,
-        Command::Open {
-            members,
-            first_year,
-            years,
+        Form::Rule => rule(words)?,
+        Form::Open => Command::Open {
+            members: words.number()?,
+            first_year: words.number()?,
+            years: words.number()?,
         },
-    )
+        Form::Deposit => Command::Deposit {
+            member: words.number()?,
+            amount: words.number()?,
+        },
+        Form::Withdraw => Command::Withdraw {
+            member: words.number()?,
+            amount: words.number()?,
+        },
+        Form::List => Command::List {
+            contract: words.number()?,
+            price: words.number()?,
+            rate: words.number()?,
+        },
+        Form::Halt => Command::Halt {
+            contract: words.number()?,
+        },
+        Form::Resume => Command::Resume {
+            contract: words.number()?,
+            price: words.number()?,
+        },
+        Form::Step => Command::Step,
+        Form::Requirement => Command::Requirement {
+            member: words.number()?,
+        },
+        Form::Show => Command::Show(what_named(words.next_word()?)?),
+        Form::NotBuilt => {
+            // The words behind such a name are not read.
+            words.skip_all();
+            Command::NotBuilt
+        }
+        Form::Unknown => return None,
+    })
 }
 
-// A member and an amount in kuruş.
-fn payment(rest: Rest<'_>) -> Option<(u8, u64)>
-    ensures { result ≡ payment (option_map (λ x. x.now) rest.entry) }
+#[tactic(auto, using(crate::proofs::Spelled::spelled))]
+fn vault_kind(words: &mut Words<'_>) -> Option<VaultKind>
+    ensures { option_map (λ vault. (vault, words.new)) result ≡ vault_kind words.old }
 {
-    let (member, rest) = next_u8(rest)?;
-    let (amount, rest) = next_u64(rest)?;
-    match rest {
-        None => Some((member, amount)),
-        Some(_) => None,
+    match words.next_word()? {
+        b"table" => Some(VaultKind::Table),
+        b"journal" => Some(VaultKind::Journal {
+            entries: words.length()?,
+        }),
+        _ => None,
     }
 }
 
-fn list(rest: Rest<'_>) -> Option<Command>
-    ensures { result ≡ list (option_map (λ x. x.now) rest.entry) }
+fn rule(words: &mut Words<'_>) -> Option<Command>
+    ensures { then result (ended words.new) ≡ rule words.old }
 {
-    let (contract, rest) = next_u8(rest)?;
-    let (price, rest) = next_u32(rest)?;
-    let (rate, rest) = next_u32(rest)?;
-    ended(
-        rest,
-        Command::List {
-            contract,
-            price,
-            rate,
-        },
-    )
+    match words.next_word()? {
+        b"gas" => Some(Command::GasRule),
+        b"hub" => Some(Command::HubRule {
+            tax: words.number()?,
+            share: words.number()?,
+        }),
+        _ => None,
+    }
 }
 
-fn halt(rest: Rest<'_>) -> Option<Command>
-    ensures { result ≡ halt (option_map (λ x. x.now) rest.entry) }
-{
-    let (contract, rest) = next_u8(rest)?;
-    ended(rest, Command::Halt { contract })
-}
-
-fn resume(rest: Rest<'_>) -> Option<Command>
-    ensures { result ≡ resume (option_map (λ x. x.now) rest.entry) }
-{
-    let (contract, rest) = next_u8(rest)?;
-    let (price, rest) = next_u32(rest)?;
-    ended(rest, Command::Resume { contract, price })
-}
-
-fn requirement(rest: Rest<'_>) -> Option<Command>
-    ensures { result ≡ requirement (option_map (λ x. x.now) rest.entry) }
-{
-    let (member, rest) = next_u8(rest)?;
-    ended(rest, Command::Requirement { member })
-}
-
-fn show(rest: Rest<'_>) -> Option<Command>
-    ensures { result ≡ show (option_map (λ x. x.now) rest.entry) }
-{
-    let (word, rest) = next_word(rest)?;
-    let what = what_named(word)?;
-    ended(rest, Command::Show(what))
-}
-
+// An `Option` and no `TryFrom`: what is said of a line is its form, and a word that names nothing has no more to say.
+#[tactic(auto, using(crate::proofs::Spelled::spelled))]
 fn what_named(word: &[u8]) -> Option<What>
     ensures { result ≡ what_named word.now }
 {
-    if is(word, "orders") {
-        Some(What::Orders)
-    } else if is(word, "lots") {
-        Some(What::Lots)
-    } else if is(word, "tape") {
-        Some(What::Tape)
-    } else if is(word, "results") {
-        Some(What::Results)
-    } else if is(word, "balances") {
-        Some(What::Balances)
-    } else if is(word, "phase") {
-        Some(What::Phase)
-    } else {
-        None
+    match word {
+        b"orders" => Some(What::Orders),
+        b"lots" => Some(What::Lots),
+        b"tape" => Some(What::Tape),
+        b"results" => Some(What::Results),
+        b"balances" => Some(What::Balances),
+        b"phase" => Some(What::Phase),
+        _ => None,
     }
 }

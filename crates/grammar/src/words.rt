@@ -1,104 +1,129 @@
-// Words: what stands between single spaces. A doubled space, or one in front or behind, makes an empty word.
-ghost use Rattle.std.specs.Prelude.{◌≡◌, ◌+◌, ◌<◌, ◌≤◌, [], length, take, drop, if◌then◌else◌, Some, None, nat_lt};
-ghost use Rattle.std.specs.Option.{option_map, unwrap_or};
-ghost use Rattle.std.specs.Str.{bytes_eq};
-ghost use Rattle.grammar.specs.Words.{before, behind, next_word, next_number};
+// Lines and words: what stands between marks. A doubled space, or one in front or behind, makes an empty word.
+ghost use Rattle.std.specs.Prelude.{◌≡◌, None, is_none};
+ghost use Rattle.std.specs.Iterator.{YieldsFirstRef, item_count};
+ghost use Rattle.std.specs.Option.{option_map};
+ghost use Rattle.grammar.specs.Words.{before, behind, lines, next_word, next_number};
+ghost use Rattle.grammar.specs.Arguments.{next_length};
 
-use crate::numbers::number_up_to;
+use crate::numbers::{Width, number_up_to};
+use std::marker::Model;
 
-pub(crate) const SPACE: u8 = b' ';
+const SPACE: u8 = b' ';
 
 const NEWLINE: u8 = b'\n';
 
-// What is left of a line behind a word and its space; nothing where the word ends the line.
-pub(crate) type Rest<'a> = Option<&'a [u8]>;
-
-// How many bytes stand before the first mark, or how many there are where there is none.
-fn length_before(mark: u8, bytes: &[u8]) -> usize
-    ensures within { result ≤ length bytes.now }
-    ensures front { take result bytes.now ≡ before mark bytes.now }
-    ensures back { (if nat_lt result (length bytes.now) then Some (drop (result + 1) bytes.now) else None) ≡ behind mark bytes.now }
-{
-    let mut n = 0;
-    while n < bytes.len() && bytes[n] != mark {
-        n += 1;
-    }
-    n
-}
+// The greatest length that a script can lend.
+const MAX_LENGTH: usize = 70_000;
 
 // The bytes before the first mark, and those behind it where there is one.
-pub(crate) fn cut(mark: u8, bytes: &[u8]) -> (&[u8], Rest<'_>)
+fn cut(mark: u8, bytes: &[u8]) -> (&[u8], Option<&[u8]>)
     ensures front { result.0.now ≡ before mark bytes.now }
     ensures back { option_map (λ x. x.now) result.1 ≡ behind mark bytes.now }
 {
-    let n = length_before(mark, bytes);
-    if n < bytes.len() {
-        (&bytes[0..n], Some(&bytes[n + 1..]))
-    } else {
-        (bytes, None)
+    match bytes.iter().position(|byte| *byte == mark) {
+        Some(at) => (&bytes[..at], Some(&bytes[at + 1..])),
+        None => (bytes, None),
     }
 }
 
-// The first line of a text without its end, and the text behind it.
-pub fn first_line(text: &[u8]) -> (&[u8], &[u8])
-    ensures front { result.0.now ≡ before 10 text.now }
-    ensures back { result.1.now ≡ unwrap_or (behind 10 text.now) [] }
-{
-    let (line, behind) = cut(NEWLINE, text);
-    match behind {
-        Some(more) => (line, more),
-        None => (line, &[]),
+// The lines of a text, each without its end. A contract sees those that are still to come.
+#[derive(Drop)]
+pub struct Lines<'a> {
+    rest: &'a [u8],
+}
+
+impl<'a> Model for Lines<'a> {
+    ghost use Rattle.std.specs.Prelude.{ℕ, List};
+    ghost use Rattle.grammar.specs.Words.{lines};
+
+    ghost Value = { List (List ℕ) };
+
+    ghost view = { λ s. lines s.rest.now };
+}
+
+impl<'a> Lines<'a> {
+    pub fn new(text: &'a [u8]) -> Lines<'a>
+        ensures { result ≡ lines text.now }
+    {
+        Lines { rest: text }
     }
 }
 
-// Whether a word is this text.
-pub(crate) fn is(word: &[u8], text: &str) -> bool
-    ensures { result ≡ bytes_eq word.now text.now }
-{
-    word == text.as_bytes()
+impl<'a> Iterator for Lines<'a> {
+    type Item = &'a [u8];
+
+    ghost next_gives = { YieldsFirstRef (λ lines. lines) };
+
+    ghost remaining = { item_count (λ lines. lines) };
+
+    fn next(&mut self) -> Option<&'a [u8]> {
+        if self.rest.is_empty() {
+            return None;
+        }
+        let (line, behind) = cut(NEWLINE, self.rest);
+        self.rest = behind.unwrap_or(&[]);
+        Some(line)
+    }
 }
 
-// The next word of a line, and what is left behind it.
-pub(crate) fn next_word(rest: Rest<'_>) -> Option<(&[u8], Rest<'_>)>
-    ensures { option_map (λ p. (p.0.now, option_map (λ x. x.now) p.1)) result ≡ next_word (option_map (λ x. x.now) rest.entry) }
-{
-    let bytes = rest?;
-    Some(cut(SPACE, bytes))
+// The words of a line that are still to be read. A contract sees the bytes that are left, or `None` where no word is.
+#[derive(Drop)]
+pub(crate) struct Words<'a> {
+    rest: Option<&'a [u8]>,
 }
 
-// The next word as a number, `most` where it is greater; nothing where it is no number.
-pub(crate) fn next_number(most: u64, rest: Rest<'_>) -> Option<(u64, Rest<'_>)>
-    ensures { option_map (λ p. (p.0, option_map (λ x. x.now) p.1)) result ≡ next_number most (option_map (λ x. x.now) rest.entry) }
-{
-    let (word, rest) = next_word(rest)?;
-    let number = number_up_to(most, word)?;
-    Some((number, rest))
+impl<'a> Model for Words<'a> {
+    ghost use Rattle.std.specs.Prelude.{ℕ, List, Option};
+    ghost use Rattle.std.specs.Option.{option_map};
+
+    ghost Value = { Option (List ℕ) };
+
+    ghost view = { λ s. option_map (λ bytes. bytes.now) s.rest };
 }
 
-// The numbers of each width: one that does not fit becomes the greatest that does, which no call takes.
-pub(crate) fn next_u8(rest: Rest<'_>) -> Option<(u8, Rest<'_>)>
-    ensures { option_map (λ p. (p.0, option_map (λ x. x.now) p.1)) result ≡ next_number 255 (option_map (λ x. x.now) rest.entry) }
-{
-    let (number, rest) = next_number(u64::from(u8::MAX), rest)?;
-    Some((number as u8, rest))
-}
+impl<'a> Words<'a> {
+    // The first word of a line, and the words behind it.
+    pub(crate) fn split_first(line: &'a [u8]) -> (&'a [u8], Words<'a>)
+        ensures first { result.0.now ≡ before 32 line.now }
+        ensures others { result.1 ≡ behind 32 line.now }
+    {
+        let (first, rest) = cut(SPACE, line);
+        (first, Words { rest })
+    }
 
-pub(crate) fn next_u16(rest: Rest<'_>) -> Option<(u16, Rest<'_>)>
-    ensures { option_map (λ p. (p.0, option_map (λ x. x.now) p.1)) result ≡ next_number 65535 (option_map (λ x. x.now) rest.entry) }
-{
-    let (number, rest) = next_number(u64::from(u16::MAX), rest)?;
-    Some((number as u16, rest))
-}
+    pub(crate) fn next_word(&mut self) -> Option<&'a [u8]>
+        ensures { option_map (λ word. (word.now, self.new)) result ≡ next_word self.old }
+    {
+        let (word, rest) = cut(SPACE, self.rest?);
+        self.rest = rest;
+        Some(word)
+    }
 
-pub(crate) fn next_u32(rest: Rest<'_>) -> Option<(u32, Rest<'_>)>
-    ensures { option_map (λ p. (p.0, option_map (λ x. x.now) p.1)) result ≡ next_number 4294967295 (option_map (λ x. x.now) rest.entry) }
-{
-    let (number, rest) = next_number(u64::from(u32::MAX), rest)?;
-    Some((number as u32, rest))
-}
+    // The next word as a number: one that does not fit becomes the greatest that does, which no call takes.
+    pub(crate) fn number<N: Width>(&mut self) -> Option<N>
+        ensures { option_map (λ number. (N.value number, self.new)) result ≡ next_number N.MAX self.old }
+    {
+        let word = self.next_word()?;
+        let number = number_up_to(N::MAX, word)?;
+        Some(N::narrowed(number))
+    }
 
-pub(crate) fn next_u64(rest: Rest<'_>) -> Option<(u64, Rest<'_>)>
-    ensures { option_map (λ p. (p.0, option_map (λ x. x.now) p.1)) result ≡ next_number 18446744073709551615 (option_map (λ x. x.now) rest.entry) }
-{
-    next_number(u64::MAX, rest)
+    // A length that can be lent.
+    pub(crate) fn length(&mut self) -> Option<usize>
+        ensures { option_map (λ length. (length, self.new)) result ≡ next_length self.old }
+    {
+        self.number().filter(|length| *length <= MAX_LENGTH)
+    }
+
+    pub(crate) fn is_empty(&self) -> bool
+        ensures { result ≡ is_none self.now }
+    {
+        self.rest.is_none()
+    }
+
+    pub(crate) fn skip_all(&mut self)
+        ensures { self.new ≡ None }
+    {
+        self.rest = None;
+    }
 }

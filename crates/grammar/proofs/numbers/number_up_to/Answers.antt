@@ -1,24 +1,16 @@
-use Rattle.std.proofs.Common.{◌≡◌, ◌+◌, ◌-◌, ◌*◌, ◌<◌, min, leb, length, get_or, arith, false-eqb}
-use Rattle.std.proofs.lemmas.Bool.{and_from, and_left, and_right, le-leb, lt-leb}
+use Rattle.std.proofs.Common.{◌≡◌, ◌+◌, ◌-◌, ◌*◌, ◌<◌, min, length, get_or, arith, false-eqb}
 use Rattle.grammar.proofs.Reading.{read_stop, read_on, read_end}
 use Rattle.grammar.proofs.numbers.number_up_to.Goals as goal
-use Rattle.grammar.proofs.numbers.number_up_to.Goals.{then-byte-lt48-via-then-byte-lt48, then-byte-lt48-via-else-byte-lt48+then-byte-gt57}
 
-pub returns-then-byte-lt48 : goal.returns-then-byte-lt48
-returns-then-byte-lt48 c =
-    let byte = get_or c.args.word.now c.loop-byte.byte-index 0 in
-    let stop = read_stop c.args.most c.loop-byte.number c.loop-byte.byte-index c.args.word.now c.loop-byte.invariant c.loop-byte-test.true in
-    elim c.then-byte-lt48.branch [
-      | then-byte-lt48-via-then-byte-lt48 w ↦ stop (and_left (leb 48 byte) (leb byte 57) (lt-leb 48 byte w.if-byte-lt48.true))
-      | then-byte-lt48-via-else-byte-lt48+then-byte-gt57 w ↦ stop (and_right (leb 48 byte) (leb byte 57) (lt-leb byte 57 w.if-byte-gt57.true))
-    ]
+pub returns-then-not-is_ascii_digit : goal.returns-then-not-is_ascii_digit
+returns-then-not-is_ascii_digit c =
+    read_stop c.args.most c.loop-byte.number c.loop-byte.byte-index c.args.word.now c.loop-byte.invariant c.loop-byte-test.true (cc)
 
 pub loop-byte-preserved : goal.loop-byte-preserved
 loop-byte-preserved c =
     let byte = get_or c.args.word.now c.loop-byte.byte-index 0 in
-    let digit = and_from (leb 48 byte) (leb byte 57) (le-leb 48 byte c.if-byte-lt48.false) (le-leb byte 57 c.if-byte-gt57.false) in
     let next : c.min-number.result ≡ min (c.loop-byte.number * 10 + (byte - 48)) c.args.most = omega arith in
-    read_on c.args.most c.loop-byte.number c.loop-byte.byte-index c.args.word.now c.loop-byte.invariant c.min-number.result c.loop-byte-test.true digit next
+    read_on c.args.most c.loop-byte.number c.loop-byte.byte-index c.args.word.now c.loop-byte.invariant c.min-number.result c.loop-byte-test.true (cc) next
 
 pub returns : goal.returns
 returns c =
