@@ -6,9 +6,6 @@ use Rattle.script.specs.declared.summary.Outcome.{Outcome}
 use Rattle.script.specs.declared.summary.Outcome.TheVariants.{NoCall, Accepted, Refused, Bad}
 use Rattle.script.specs.declared.summary.Summary.{Summary}
 
-abbrev pub none_counted : Summary
-none_counted = record { calls = 0; accepted = 0; refused = 0; bad = 0 }
-
 -- the counts with one line more
 abbrev pub counted : Outcome → Summary → Summary
 counted NoCall s = s

@@ -1,8 +1,9 @@
--- Which contract a member's result belongs to.
-use Rattle.std.specs.Prelude.{ℕ, ◌+◌, ◌-◌, ◌*◌, cond, nat_lt}
+-- Whose results the places of their table hold.
+use Rattle.std.specs.Prelude.{ℕ, ℤ, ◌*◌, ◌/◌, ◌%◌}
+use Rattle.market.specs.Calendar.{contract_at}
+use Rattle.script.specs.declared.tables.Record.{Record}
+use Rattle.script.specs.declared.tables.Record.TheVariants as record_of
 
--- over so many years a member has a result for each month, then each quarter, then each year; months are the contracts from 0, quarters from 100, years from 200
-abbrev pub contract_at : ℕ → ℕ → ℕ
-contract_at years place =
-    cond (nat_lt place (12 * years)) place
-    (cond (nat_lt place (16 * years)) (100 + (place - 12 * years)) (200 + (place - 16 * years)))
+-- the record of a result at a place, in a house of so many years
+abbrev pub result_at : ℕ → ℕ → ℤ → Record
+result_at years place value = record_of.Result (place / (17 * years)) (contract_at years (place % (17 * years))) value

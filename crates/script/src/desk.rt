@@ -1,24 +1,17 @@
-// The desk that a script is played at: the rule in force, the years of the open house, and the output.
-ghost use Rattle.std.specs.Prelude.{◌≡◌, [], ◌∷◌, ◌++◌, if◌then◌else◌, OnOk};
-ghost use Rattle.script.specs.Texts.{summary_text};
+// The desk that a script is answered at.
+ghost use Rattle.std.specs.Prelude.{◌≡◌, [], ◌∷◌, ◌++◌, if◌then◌else◌, ◌&&◌, not, codes, OnOk, IfSome};
+ghost use Rattle.std.specs.Iterator.{IsFinite};
+ghost use Rattle.script.specs.Answers.{is_bad};
+ghost use Rattle.script.specs.Texts.{answer_text};
 
-use crate::answers::Answer;
-use crate::summary::Summary;
-use margin::{GasRule, HubRule};
+use crate::answers::{Reply, Trouble};
 use std::alloc::{AllocError, Global};
-
-#[derive(Clone, Copy)]
-pub(crate) enum ChosenRule {
-    Gas(GasRule),
-    Hub(HubRule),
-}
+use std::fmt;
 
 #[derive(Drop)]
 pub(crate) struct Desk {
-    pub(crate) heap: Global,
-    pub(crate) quiet: bool, // only bad lines are written
-    pub(crate) rule: ChosenRule,
-    pub(crate) years: u8, // of the open house, 0 before the opening
+    heap: Global,
+    quiet: bool, // only bad lines are written
     pub(crate) output: Vec<u8>,
 }
 
@@ -27,8 +20,6 @@ impl Desk {
         Desk {
             heap,
             quiet,
-            rule: ChosenRule::Gas(GasRule),
-            years: 0,
             output: Vec::new(heap),
         }
     }
@@ -45,34 +36,47 @@ impl Desk {
     }
 
     // Writes a line and its answer.
-    pub(crate) fn reply(&mut self, line: &[u8], answer: Answer) -> Result<(), AllocError> {
-        let silent = match answer {
-            Answer::Bad(_) => false,
-            _ => self.quiet,
-        };
-        if silent {
+    pub(crate) fn reply(
+        &mut self,
+        line: &[u8],
+        answer: Result<Reply, Trouble>,
+    ) -> Result<(), AllocError>
+        ensures { OnOk result (self.new.output.items ≡ (if self.old.quiet && not (is_bad answer) then self.old.output.items else ((self.old.output.items ++ line.now) ++ codes " : " ++ answer_text answer) ++ 10 ∷ [])) }
+    {
+        if self.quiet && !matches!(answer, Err(Trouble::Bad(_))) {
             return Ok(());
         }
-        let text = format!(in self.heap; " : {answer}")?;
         self.output.extend_from_slice(line)?;
-        self.output.extend_from_slice(text.as_bytes())?;
-        self.end_line()
+        match answer {
+            Ok(reply) => self.write_line(format_args!(" : {reply}")),
+            Err(trouble) => self.write_line(format_args!(" : {trouble}")),
+        }
+    }
+
+    // Writes records, each on a line that begins with two spaces.
+    pub(crate) fn list<T: fmt::Display + Drop, I: Iterator<Item = T> + Drop>(
+        &mut self,
+        records: I,
+    ) -> Result<(), AllocError>
+        requires can { I.can_next records }
+        requires ends { IsFinite (I.remaining records) }
+    {
+        if self.quiet {
+            return Ok(());
+        }
+        for record in records {
+            self.write_line(format_args!("  {record}"))?;
+        }
+        Ok(())
     }
 
     // Writes a line of its own.
-    pub(crate) fn write_line(&mut self, text: &str) -> Result<(), AllocError>
-        ensures { OnOk result (self.new.output.items ≡ (self.old.output.items ++ text.now) ++ 10 ∷ []) }
+    pub(crate) fn write_line<T: fmt::Display + Drop>(&mut self, text: T) -> Result<(), AllocError>
+        ensures { OnOk result (IfSome (T.output text) (λ bytes. self.new.output.items ≡ (self.old.output.items ++ bytes) ++ 10 ∷ [])) }
     {
+        let text = format!(in self.heap; "{text}")?;
         self.output.extend_from_slice(text.as_bytes())?;
         self.end_line()
-    }
-
-    // Writes the counts on a line of their own.
-    pub(crate) fn write_summary(&mut self, summary: Summary) -> Result<(), AllocError>
-        ensures { OnOk result (self.new.output.items ≡ (self.old.output.items ++ summary_text summary) ++ 10 ∷ []) }
-    {
-        let text = format!(in self.heap; "{summary}")?;
-        self.write_line(text.as_str())
     }
 
     fn end_line(&mut self) -> Result<(), AllocError>

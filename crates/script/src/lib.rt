@@ -6,6 +6,7 @@ mod desk;
 mod program;
 mod report;
 mod running;
+mod session;
 mod summary;
 mod tables;
 

@@ -4,32 +4,25 @@ ghost use Rattle.script.specs.Counts.{Answered};
 
 use crate::running::run;
 use crate::summary::Summary;
-use anyhow::anyhow;
+use anyhow::bail;
 use std::env;
 use std::io::{Read, Write};
 use std::time::{Duration, Instant};
 
 // What the arguments ask for.
-#[derive(Clone, Copy)]
+#[derive(Clone, Copy, Default)]
 struct Options {
     quiet: bool,
     time: bool,
 }
 
 fn read_arguments(rt: &HostRuntime) -> anyhow::Result<Options> {
-    let mut options = Options {
-        quiet: false,
-        time: false,
-    };
+    let mut options = Options::default();
     for argument in env::args(rt)?.skip(1) {
         match argument.as_str() {
             "--quiet" => options.quiet = true,
             "--time" => options.time = true,
-            other => {
-                return Err(anyhow!(
-                    "unknown argument {other}: the arguments are --quiet and --time"
-                ));
-            }
+            other => bail!("unknown argument {other}: the arguments are --quiet and --time"),
         }
     }
     Ok(options)
@@ -54,8 +47,11 @@ pub fn serve(rt: &HostRuntime) -> anyhow::Result<Summary>
 
 // How long the whole script took, and how many calls that makes in a second.
 fn tell_time(rt: &HostRuntime, summary: Summary, time: Duration) -> anyhow::Result<()> {
-    let calls = summary.calls;
-    let accepted = summary.accepted;
+    let Summary {
+        calls,
+        accepted,
+        ..
+    } = summary;
     let millionths = time.as_micros();
     let seconds = millionths / 1_000_000;
     let part = millionths % 1_000_000;
