@@ -17,6 +17,7 @@ impl TryFrom<&[u8]> for Command {
     fn try_from(line: &[u8]) -> Result<Command, Form> {
         let (name, mut words) = Words::split_first(line);
         let form = Form::from(name);
+        // A match, since `filter` and `ok_or` would ask the words in a closure, and the check does not see through that alone.
         match command(form, &mut words) {
             Some(command) if words.is_empty() => Ok(command),
             _ => Err(form),

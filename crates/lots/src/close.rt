@@ -71,12 +71,11 @@ fn used_up(line: &Line<'_, Lot>, from: usize, arrival: Arrival) -> (usize, Rest)
     ensures does { closing arrival.lot arrival.lot.quantity (drop from (records line.now.table)) ≡ with_earned result.1.earned (closing arrival.lot result.1.left (drop result.0 (records line.now.table))) }
     ensures stops { result.0 < line.now.table.used → opposes arrival.lot (slice_index_or (records line.now.table) result.0 no_lot) ≡ true → result.1.left < (get_or (records line.now.table) result.0 no_lot).quantity }
 {
-    let mut upto = from;
     let mut left = arrival.lot.quantity;
     let mut earned: i64 = 0;
-    for next in &line.records()[from..] {
+    for (index, next) in line.records()[from..].iter().enumerate() {
         if !opposes(&arrival.lot, next) || next.quantity > left {
-            break;
+            return (from + index, Rest { left, earned });
         }
         earned += earns(
             arrival.lot.side,
@@ -85,9 +84,8 @@ fn used_up(line: &Line<'_, Lot>, from: usize, arrival: Arrival) -> (usize, Rest)
             next.price,
         );
         left -= next.quantity;
-        upto += 1;
     }
-    (upto, Rest { left, earned })
+    (line.records().len(), Rest { left, earned })
 }
 
 // Closes a part of the lot at the index, if it is an opposite one: what is left of the arriving lot does not use it up.
