@@ -15,6 +15,7 @@ pub struct Position {
     pub value: i64, // sold less bought quantity × price of its lots, kuruş per gas day
 }
 
+// The opening price and the gas days are given beside a position: `loss` needs no price, and the two sides neither.
 impl Position {
     // What the member is long once all its resting buys have traded, thousand Sm³ a gas day.
     pub fn long_side(&self) -> u128
