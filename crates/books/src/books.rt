@@ -1,6 +1,6 @@
 // The books of a house: the lots that its members hold open, and what their closings earned.
 ghost use Rattle.std.specs.Prelude.{◌≡◌, ◌*◌, ◌<◌, ◌≤◌, true, pos};
-ghost use Rattle.line.specs.Tables.{records, whole, held, places, all_blank, Cleared};
+ghost use Rattle.line.specs.Tables.{records, whole, held, places, all_blank, Within, Cleared};
 ghost use Rattle.market.specs.Calendar.{in_house};
 ghost use Rattle.market.specs.Records.{no_lot};
 
@@ -16,6 +16,7 @@ pub struct Books<'a> {
     pub results: Table<'a, i64>, // kuruş a gas day, member by member, each by slot
     pub members: u8,
     pub years: u8,
+    ghost within: { Within results },
     ghost few: { years ≤ 4 },
     ghost counted: { results.used ≡ members * (17 * years) },
 }

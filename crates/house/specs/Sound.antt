@@ -1,6 +1,6 @@
 -- What an open house keeps of its tables and its size. Before the opening only that nothing is in use.
 use Rattle.std.specs.Prelude.{◌≡◌, ℕ, ◌*◌, ◌<◌, ◌≤◌, true, false, length}
-use Rattle.line.specs.Tables.{whole, Cleared}
+use Rattle.line.specs.Tables.{whole, Within, Cleared}
 use Rattle.line.specs.declared.table.Table.{Table}
 use Rattle.market.specs.Phases.{is_open}
 use Rattle.market.specs.declared.phase.Phase.{Phase}
@@ -9,9 +9,9 @@ use Rattle.books.specs.Books.{month_weight}
 use Rattle.books.specs.View.{books_of}
 use Rattle.books.specs.declared.books.Books as books
 
--- no place is in use before the opening, and every free one is blank after it
+-- the records stand within the places; no place is in use before the opening, and every free one is blank after it
 abbrev pub Sound : {X : Type 0} → X → Phase → Table X → Type 0
-Sound blank p t = (is_open p ≡ false → t.used ≡ 0) × (is_open p ≡ true → Cleared blank t)
+Sound blank p t = Within t × (is_open p ≡ false → t.used ≡ 0) × (is_open p ≡ true → Cleared blank t)
 
 -- a table of an open house has at most so many places
 abbrev pub Limited : {X : Type 0} → ℕ → Phase → Table X → Type 0

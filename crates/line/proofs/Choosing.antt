@@ -1,5 +1,6 @@
 -- Going over a list with a test that may change, and moving to the front what it chose.
-use Rattle.std.proofs.Common.{◌≡◌, ℕ, ◌+◌, ◌<◌, ◌≤◌, Bool, true, false, List, [], ◌∷◌, ◌++◌, length, get_or, take, drop, set, sym, refl, ap, ◌∙◌, subst, arith}
+use Rattle.std.proofs.Common.{◌≡◌, ℕ, ◌+◌, ◌<◌, ◌≤◌, Bool, true, false, cond, List, [], ◌∷◌, ◌++◌, length, get_or, take, drop, set, filter, Bor, sym, refl, ap, ◌∙◌, subst, arith}
+use Rattle.std.specs.Fn.{Mut, CalledAt, ComputesKey}
 use Rattle.std.proofs.lemmas.List.{length-append, length-set, take_more, take_more_set, drop-set-lt, drop-drop, append-nil, get_or-drop}
 use Rattle.std.specs.List.{AllByRecursion, items_where_true}
 use Rattle.std.specs.List.Retain.{ReturnsInTurn, IsFiltered}
@@ -87,3 +88,22 @@ items_in_line place (false ∷ bs) (x ∷ xs) h = items_in_line place bs xs h.1
 
 pub in_line_filtered : {X P : Type 0} {R : P → X → Bool → P → Type 0} (place : X → List Rank) (p : P) (xs ys : List X) → InLine place xs → IsFiltered R p xs ys → InLine place ys
 in_line_filtered place p xs ys h f = subst (InLine place) (sym f.4) (items_in_line place f.0 xs h)
+
+-- where each answer of the test is that of p, what was chosen are the records that pass p
+module _ {X F : Type 0} (g : Mut F (Bor X × Unit {0}) Bool) (p : X → Bool) where
+  kept_first : (x : X) (xs : List X) (bs : List Bool) (b : Bool) → b ≡ p x → items_where_true bs xs ≡ filter p xs → items_where_true (b ∷ bs) (x ∷ xs) ≡ filter p (x ∷ xs)
+  kept_first x xs bs true e rest = ap (λ l. x ∷ l) rest ∙ ap (λ a. cond a (x ∷ filter p xs) (filter p xs)) e
+  kept_first x xs bs false e rest = rest ∙ ap (λ a. cond a (x ∷ filter p xs) (filter p xs)) e
+
+  told_by : (bs : List Bool) (xs : List X) (f q : F) → length bs ≡ length xs → ComputesKey g p f → ReturnsInTurn (CalledAt g) f bs xs q → items_where_true bs xs ≡ filter p xs
+  told_by [] [] f q e h t = refl
+  told_by [] (x ∷ xs) f q e h t = absurd (omega arith)
+  told_by (b ∷ bs) [] f q e h t = absurd t
+  told_by (b ∷ bs) (x ∷ xs) f q e h t =
+      let one = t.1 in
+      let says : b ≡ p x = (h.at ((one.shown, tt) ∷ []) b t.0 one.called).0 ∙ ap p one.shows in
+      let on : ComputesKey g p t.0 = record { at = λ more. (h.at ((one.shown, tt) ∷ more) b t.0 one.called).1 } in
+      kept_first x xs bs b says (told_by bs xs t.0 q (omega arith) on t.2)
+
+  pub filtered_by : (f : F) (xs ys : List X) → ComputesKey g p f → IsFiltered (CalledAt g) f xs ys → ys ≡ filter p xs
+  filtered_by f xs ys h k = k.4 ∙ told_by k.0 xs f k.1 k.2 h k.3

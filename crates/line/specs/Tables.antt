@@ -1,6 +1,6 @@
 -- What a lent table holds, as lists.
 -- whole: every lent place; records: the places in use, at the front; behind: the free places after them.
-use Rattle.std.specs.Prelude.{◌≡◌, ℕ, ◌+◌, ◌-◌, ◌<◌, List, length, take, drop, replicate}
+use Rattle.std.specs.Prelude.{◌≡◌, ℕ, ◌+◌, ◌-◌, ◌<◌, ◌≤◌, List, length, take, drop, replicate}
 use Rattle.line.specs.declared.table.Table.{Table}
 
 -- every lent place
@@ -14,6 +14,10 @@ records t = take t.used (whole t)
 -- the places behind the records
 abbrev pub behind : {X : Type 0} → Table X → List X
 behind t = drop t.used (whole t)
+
+-- the records stand within the places
+abbrev pub Within : {X : Type 0} → Table X → Type 0
+Within t = t.used ≤ length (whole t)
 
 -- every free place is blank
 abbrev pub Cleared : {X : Type 0} → X → Table X → Type 0

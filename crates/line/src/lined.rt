@@ -1,10 +1,10 @@
 // A lent table whose records are kept in line.
 ghost use Rattle.std.specs.Prelude.{◌≡◌, ◌+◌, ◌-◌, ◌<◌, ◌≤◌, Bool, true, false, [], length, take, drop, Decides, filter, slice_index_or, slice_set};
-ghost use Rattle.std.specs.Fn.{CalledAt};
+ghost use Rattle.std.specs.Fn.{CalledAt, ComputesKey};
 ghost use Rattle.std.specs.List.Retain.{IsFiltered};
 ghost use Rattle.line.specs.Places.{ahead};
 ghost use Rattle.line.specs.Lines.{Free, in_line, spot, entered, taken_out, lies_between};
-ghost use Rattle.line.specs.Tables.{records, whole, held, places, all_blank, Cleared, Room, StaysLent};
+ghost use Rattle.line.specs.Tables.{records, whole, held, places, all_blank, Within, Cleared, Room, StaysLent};
 
 use crate::placed::Placed;
 use crate::table::Table;
@@ -13,6 +13,7 @@ use std::ops::Range;
 #[derive(Drop)]
 pub struct Line<'a, T: Placed> {
     pub table: Table<'a, T>,
+    ghost within: { Within table },
     ghost lined: { in_line T.place (records table) ≡ true },
 }
 
@@ -127,6 +128,7 @@ impl<T: Placed> Line<'_, T> {
         ensures lent { StaysLent T.Blank.blank self.old.table self.new.table }
         ensures used { self.new.table.used ≤ self.old.table.used }
         ensures records { IsFiltered (CalledAt F.FnMut) test (records self.old.table) (records self.new.table) }
+        ensures by_test { (p : T → Bool) → ComputesKey F.FnMut p test → records self.new.table ≡ filter p (records self.old.table) }
     {
         self.table.retain(test);
     }

@@ -10,7 +10,6 @@ use std::ops::Range;
 pub struct Table<'a, T> {
     pub places: &'a mut [T],
     pub used: usize,
-    ghost within: { used ≤ length places.now },
 }
 
 impl<'a, T> Table<'a, T> {
@@ -34,6 +33,7 @@ impl<'a, T> Table<'a, T> {
 
     // The records in use.
     pub fn records(&self) -> &[T]
+        requires { self.now.used ≤ length (whole self.now) }
         ensures { result.now ≡ records self.now }
     {
         &self.places[..self.used]
@@ -51,7 +51,7 @@ impl<T: Blank> Table<'_, T> {
     ghost use Rattle.std.specs.Fn.{CalledAt};
     ghost use Rattle.std.specs.List.Retain.{IsFiltered};
     ghost use Rattle.line.specs.Lines.{taken_out};
-    ghost use Rattle.line.specs.Tables.{records, held, places, all_blank, Cleared, Room, StaysLent};
+    ghost use Rattle.line.specs.Tables.{records, held, places, all_blank, Within, Cleared, Room, StaysLent};
 
     // Blanks every place, and lets the first `used` of them count as records.
     pub fn clear(&mut self, used: usize)
@@ -59,6 +59,7 @@ impl<T: Blank> Table<'_, T> {
         ensures same { self.new.places.ghost_name ≡ self.old.places.ghost_name }
         ensures used { self.new.used ≡ used }
         ensures holds { held self.new ≡ all_blank T.blank used (places (held self.old)) }
+        ensures within { Within self.new }
         ensures cleared { Cleared T.blank self.new }
     {
         wipe(self.places);
@@ -67,7 +68,8 @@ impl<T: Blank> Table<'_, T> {
 
     // The record at the index.
     pub fn at(&self, index: usize) -> T
-        requires { index < self.now.used }
+        requires within { Within self.now }
+        requires there { index < self.now.used }
         ensures { result ≡ slice_index_or (records self.now) index T.blank }
     {
         self.records()[index]
@@ -79,16 +81,19 @@ impl<T: Blank> Table<'_, T> {
         ensures lent { StaysLent T.blank self.old self.new }
         ensures used { self.new.used ≡ self.old.used + 1 }
         ensures records { records self.new ≡ records self.old ++ x ∷ [] }
+        ensures within { Within self.new }
     {
         self.insert(self.used, x);
     }
 
     // Writes the record over the one at the index.
     pub fn set(&mut self, index: usize, x: T)
-        requires { index < self.old.used }
+        requires within { Within self.old }
+        requires there { index < self.old.used }
         ensures lent { StaysLent T.blank self.old self.new }
         ensures used { self.new.used ≡ self.old.used }
         ensures records { records self.new ≡ slice_set (records self.old) index x }
+        ensures within { Within self.new }
     {
         self.places[index] = x;
     }
@@ -100,6 +105,7 @@ impl<T: Blank> Table<'_, T> {
         ensures lent { StaysLent T.blank self.old self.new }
         ensures used { self.new.used ≡ self.old.used + 1 }
         ensures records { records self.new ≡ take spot (records self.old) ++ x ∷ drop spot (records self.old) }
+        ensures within { Within self.new }
     {
         let used = self.used;
         self.places.copy_within(spot..used, spot + 1);
@@ -109,11 +115,13 @@ impl<T: Blank> Table<'_, T> {
 
     // Takes the records of a run of indices out: those behind move up, and the places that they leave are blanked.
     pub(crate) fn remove_run(&mut self, run: Range<usize>)
+        requires within { Within self.old }
         requires order { run.start ≤ run.end }
         requires there { run.end ≤ self.old.used }
         ensures lent { StaysLent T.blank self.old self.new }
         ensures used { self.new.used + (run.end - run.start) ≡ self.old.used }
         ensures records { records self.new ≡ taken_out run.start run.end (records self.old) }
+        ensures within { Within self.new }
     {
         let used = self.used;
         let left = used - (run.end - run.start);
@@ -124,14 +132,16 @@ impl<T: Blank> Table<'_, T> {
 
     // Keeps the records that pass the test, in their order; the places that they leave are blanked.
     pub(crate) fn retain<F: FnMut(&T) -> bool>(&mut self, test: F)
-        requires { F.IsAlwaysCallable test }
+        requires within { Within self.old }
+        requires callable { F.IsAlwaysCallable test }
         ensures lent { StaysLent T.blank self.old self.new }
         ensures used { self.new.used ≤ self.old.used }
         ensures records { IsFiltered (CalledAt F.FnMut) test (records self.old) (records self.new) }
+        ensures within { Within self.new }
     {
-        let used = self.used;
-        let kept = sift(&mut self.places[..used], test);
-        wipe(&mut self.places[kept..used]);
+        let records = &mut self.places[..self.used];
+        let kept = sift(records, test);
+        wipe(&mut records[kept..]);
         self.used = kept;
     }
 }

@@ -1,7 +1,7 @@
 // Tables of tickets: the higher price stands first, and of one price the lower number.
 ghost use Rattle.std.specs.Prelude.{[], ◌∷◌};
 ghost use Rattle.line.specs.Places.{rising, falling};
-ghost use Rattle.std.proofs.Common.{rules};
+ghost use Rattle.line.specs.Tables.{Cleared};
 
 use crate::{Blank, Line, Placed, Table};
 use std::cmp::Reverse;
@@ -15,11 +15,9 @@ struct Ticket {
 impl Blank for Ticket {
     ghost blank = { record { price = 0; number = 0 } };
 
-    ghost one_default = { Prim.search rules };
-
-    ghost copies = { Prim.search rules };
-
-    ghost can_copy = { Prim.search rules };
+    fn empty() -> Ticket {
+        Ticket::default()
+    }
 }
 
 impl Placed for Ticket {
@@ -31,7 +29,10 @@ impl Placed for Ticket {
 }
 
 // Enters the record where there is room and its place is free.
-fn enter<T: Placed>(line: &mut Line<'_, T>, x: T) -> bool {
+fn enter<T: Placed>(line: &mut Line<'_, T>, x: T) -> bool
+    requires { Cleared T.Blank.blank line.old.table }
+    ensures { Cleared T.Blank.blank line.new.table }
+{
     if !line.table.is_full() && line.free(&x) {
         line.put(x);
         true
@@ -41,7 +42,9 @@ fn enter<T: Placed>(line: &mut Line<'_, T>, x: T) -> bool {
 }
 
 // Empties the table, and enters three records.
-fn enter_three<T: Placed>(line: &mut Line<'_, T>, a: T, b: T, c: T) -> bool {
+fn enter_three<T: Placed>(line: &mut Line<'_, T>, a: T, b: T, c: T) -> bool
+    ensures { Cleared T.Blank.blank line.new.table }
+{
     line.clear();
     enter(line, a) && enter(line, b) && enter(line, c)
 }
@@ -149,4 +152,18 @@ fn grows_behind(rt: HostRuntime) {
     assert!(rt; tape.used == 2);
     assert!(rt; tape.at(0) == -7);
     assert!(rt; tape.at(1) == 5);
+}
+
+// Its count may be beyond the places until it is cleared.
+#[test]
+fn clears_any_table(rt: HostRuntime) {
+    let mut places = [7i64; 4];
+    let mut table = Table {
+        places: &mut places,
+        used: 9,
+    };
+    assert_eq!(rt; table.length(), 4);
+    table.clear(2);
+    assert_eq!(rt; table.used, 2);
+    assert_eq!(rt; table.at(1), 0);
 }

@@ -1,7 +1,7 @@
 // A bought or sold quantity arrives at the lots and the results of a house.
 ghost use Rattle.std.specs.Prelude.{◌≡◌, ◌+◌, ◌*◌, ◌<◌, ◌≤◌, true, length, pos, ◌+ℤ◌, slice_index_or, slice_set, unsigned_abs};
 ghost use Rattle.line.specs.Lines.{Free};
-ghost use Rattle.line.specs.Tables.{records, behind, whole, Room, StaysLent};
+ghost use Rattle.line.specs.Tables.{records, behind, whole, Within, Room, StaysLent};
 ghost use Rattle.market.specs.Places.{lot_place};
 ghost use Rattle.market.specs.Records.{no_lot};
 ghost use Rattle.lots.specs.Lots.{fit};
@@ -26,6 +26,7 @@ impl Lots<'_> {
     pub fn arrive(&mut self, results: &mut Table<'_, i64>, arrival: Arrival, index: usize)
         requires room { Room self.old.line.table }
         requires free { Free lot_place arrival.lot (records self.old.line.table) }
+        requires within { Within results.old }
         requires there { index < results.old.used }
         requires weight { weight arrival.lot.member arrival.lot.contract (slice_index_or (records results.old) index (pos 0)) (records self.old.line.table) ≤ 1000000000000000000 }
         ensures lots { records self.new.line.table ≡ arrived arrival.lot (records self.old.line.table) }
@@ -63,6 +64,7 @@ impl Lots<'_> {
 
 // Adds an amount, in kuruş a gas day, to the result at the index.
 pub fn add_result(results: &mut Table<'_, i64>, index: usize, amount: i64)
+    requires within { Within results.old }
     requires there { index < results.old.used }
     requires bound { unsigned_abs (slice_index_or (records results.old) index (pos 0)) + unsigned_abs amount ≤ 2000000000000000000 }
     ensures same { results.new.places.ghost_name ≡ results.old.places.ghost_name }

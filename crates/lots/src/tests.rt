@@ -1,6 +1,7 @@
 // Arrivals of one member in contract 0, whose result is the first, through the running code.
 ghost use Rattle.std.specs.Prelude.{◌≡◌, ◌+◌, ◌*◌, ◌<◌, ◌≤◌, true, [], length, pos, slice_index_or};
-ghost use Rattle.line.specs.Tables.{records, whole};
+ghost use Rattle.line.specs.Tables.{records, whole, Within, Cleared};
+ghost use Rattle.market.specs.Records.{no_lot};
 ghost use Rattle.lots.specs.Lots.{fit};
 ghost use Rattle.lots.specs.Sums.{weight};
 
@@ -25,10 +26,14 @@ fn lot_of(tape: u32, side: Side, quantity: u32, price: u32) -> Lot
 fn enter(lots: &mut Lots<'_>, results: &mut Table<'_, i64>, lot: Lot, count: u32) -> bool
     requires own { (lot.member ≡ 0) × (lot.contract ≡ 0) }
     requires fit { fit lot ≡ true }
+    requires cleared { Cleared no_lot lots.old.line.table }
+    requires within { Within results.old }
     requires there { 0 < results.old.used }
     requires few { count < 1000 }
     requires weight { weight 0 0 (slice_index_or (records results.old) 0 (pos 0)) (records lots.old.line.table) ≤ 10000000000 * count }
     ensures length { length (whole lots.new.line.table) ≡ length (whole lots.old.line.table) }
+    ensures cleared { Cleared no_lot lots.new.line.table }
+    ensures within { Within results.new }
     ensures there { 0 < results.new.used }
     ensures weight { weight 0 0 (slice_index_or (records results.new) 0 (pos 0)) (records lots.new.line.table) ≤ 10000000000 * (count + 1) }
 {
@@ -42,12 +47,15 @@ fn enter(lots: &mut Lots<'_>, results: &mut Table<'_, i64>, lot: Lot, count: u32
 
 // Empties the table of lots, and lets three lots arrive.
 fn enter_three(lots: &mut Lots<'_>, results: &mut Table<'_, i64>, a: Lot, b: Lot, c: Lot) -> bool
+    requires within { Within results.old }
     requires there { 0 < results.old.used }
     requires zero { slice_index_or (records results.old) 0 (pos 0) ≡ pos 0 }
     requires first { (a.member ≡ 0) × (a.contract ≡ 0) × (fit a ≡ true) }
     requires second { (b.member ≡ 0) × (b.contract ≡ 0) × (fit b ≡ true) }
     requires third { (c.member ≡ 0) × (c.contract ≡ 0) × (fit c ≡ true) }
     ensures length { length (whole lots.new.line.table) ≡ length (whole lots.old.line.table) }
+    ensures cleared { Cleared no_lot lots.new.line.table }
+    ensures within { Within results.new }
     ensures there { 0 < results.new.used }
 {
     lots.clear();

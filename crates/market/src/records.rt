@@ -1,7 +1,6 @@
 // The records of the tables that the caller lends to the house.
 ghost use Rattle.std.specs.Prelude.{◌≡◌};
 ghost use Rattle.market.specs.Records.{side_number, no_order, no_lot, no_trade, no_call};
-ghost use Rattle.std.proofs.Common.{rules};
 
 use line::Blank;
 
@@ -35,11 +34,9 @@ pub struct Order {
 impl Blank for Order {
     ghost blank = { no_order };
 
-    ghost one_default = { Prim.search rules };
-
-    ghost copies = { Prim.search rules };
-
-    ghost can_copy = { Prim.search rules };
+    fn empty() -> Order {
+        Order::default()
+    }
 }
 
 #[derive(Clone, Copy, PartialEq, Eq, Default, Debug)]
@@ -55,11 +52,9 @@ pub struct Lot {
 impl Blank for Lot {
     ghost blank = { no_lot };
 
-    ghost one_default = { Prim.search rules };
-
-    ghost copies = { Prim.search rules };
-
-    ghost can_copy = { Prim.search rules };
+    fn empty() -> Lot {
+        Lot::default()
+    }
 }
 
 #[derive(Clone, Copy, PartialEq, Eq, Default, Debug)]
@@ -74,11 +69,9 @@ pub struct Trade {
 impl Blank for Trade {
     ghost blank = { no_trade };
 
-    ghost one_default = { Prim.search rules };
-
-    ghost copies = { Prim.search rules };
-
-    ghost can_copy = { Prim.search rules };
+    fn empty() -> Trade {
+        Trade::default()
+    }
 }
 
 // A member whose requirement exceeds its balance.
@@ -91,9 +84,7 @@ pub struct MarginCall {
 impl Blank for MarginCall {
     ghost blank = { no_call };
 
-    ghost one_default = { Prim.search rules };
-
-    ghost copies = { Prim.search rules };
-
-    ghost can_copy = { Prim.search rules };
+    fn empty() -> MarginCall {
+        MarginCall::default()
+    }
 }

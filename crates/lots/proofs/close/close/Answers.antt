@@ -21,7 +21,7 @@ close_part-part-requires-clause-behind c =
 pub returns : goal.returns
 returns c =
     let t = c.args.line.now.table in let u = c.used_up-upto in let r = c.close_part-part in let k = c.cut_run.ensures in let a = c.args.arrival.lot in
-    let lu = length-take-le t.used (whole t) t.within in
+    let lu = length-take-le t.used (whole t) c.args.line.now.within in
     let w = u.ensures.within in
     let is : c.spot-from.result ≡ spot lot_place (first_place a.member a.contract) (records t) = c.spot-from.ensures.spot ∙ ap (λ p. spot lot_place p (records t)) c.first_key.ensures in
     let upto = u.result.0 in let rest = u.result.1 in

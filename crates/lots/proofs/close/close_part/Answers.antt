@@ -16,7 +16,7 @@ use Rattle.lots.proofs.close.close_part.Goals as goal
 pub earns-earned-requires : goal.earns-earned-requires
 earns-earned-requires c =
     let t = c.args.line.now.table in
-    let lu = length-take-le t.used (whole t) c.args.line.now.table.within in
+    let lu = length-take-le t.used (whole t) c.args.line.now.within in
     let l = c.at-next.result in
     let f = fit_parts l (fit_at (records t) c.args.index l c.requires.fitting (omega arith) c.at-next.ensures) in
     let a = fit_parts c.args.arrival.lot c.args.arrival.fit in
@@ -26,7 +26,7 @@ earns-earned-requires c =
 pub returns-else-index-line : goal.returns-else-index-line
 returns-else-index-line c =
     let t = c.args.line.now.table in
-    let lu = length-take-le t.used (whole t) c.args.line.now.table.within in
+    let lu = length-take-le t.used (whole t) c.args.line.now.within in
     let e = part_end c.args.arrival.lot (records t) c.args.index c.args.left (all_fit (records t) c.requires.fitting) (omega arith) in
     record {
       lent = record { same = refl; length = refl; cleared = λ h. h };
@@ -40,7 +40,7 @@ returns-else-index-line c =
 pub returns-else-opposes : goal.returns-else-opposes
 returns-else-opposes c =
     let t = c.args.line.now.table in
-    let lu = length-take-le t.used (whole t) c.args.line.now.table.within in
+    let lu = length-take-le t.used (whole t) c.args.line.now.within in
     let lt : c.args.index < length (records t) = omega arith in
     let nay : opposes c.args.arrival.lot c.at-next.result ≡ false = sym c.if-opposes.ensures in
     let e = part_none c.args.arrival.lot (records t) c.args.index c.args.left (all_fit (records t) c.requires.fitting) c.at-next.result lt c.at-next.ensures (opened lot_place (records t) c.args.line.now.lined) (sided_opened (records t) c.requires.sided) c.requires.behind nay in
@@ -56,7 +56,7 @@ returns-else-opposes c =
 pub returns-then-opposes : goal.returns-then-opposes
 returns-then-opposes c =
     let t = c.args.line.now.table in let a = c.args.arrival.lot in let l = c.at-next.result in let i = c.args.index in let q = c.args.left in
-    let lu = length-take-le t.used (whole t) c.args.line.now.table.within in
+    let lu = length-take-le t.used (whole t) c.args.line.now.within in
     let lt : i < length (records t) = omega arith in
     let d = c.at-next.ensures in
     let o : opposes a l ≡ true = sym c.if-opposes.ensures in

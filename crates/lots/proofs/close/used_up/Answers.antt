@@ -17,7 +17,7 @@ loop-index-preserved c =
     let rs = records t in
     let u = c.args.from + c.loop-index.index in let left = c.loop-index.left in
     let l = lot_from c.records.result.now c.args.from c.loop-index.index in
-    let s = seen c.records.result.now rs c.args.from c.loop-index.index c.records.ensures (omega (arith, c.requires.there, ap length c.records.ensures, length-take-le t.used (whole t) t.within)) c.loop-index-test.true in
+    let s = seen c.records.result.now rs c.args.from c.loop-index.index c.records.ensures (omega (arith, c.requires.there, ap length c.records.ensures, length-take-le t.used (whole t) c.args.line.now.within)) c.loop-index-test.true in
     let here : l ≡ get_or rs u no_lot = s.is in
     let there : u < length rs = omega (arith, s.there) in
     let f = fit_parts a c.args.arrival.fit in

@@ -14,7 +14,7 @@ returns c =
     let back = to_z-of_z w64 c.result.result (record { sfits = c.result.type_inv }) in
     let is = c.result.ensures in
     let brief : length (whole h.tape) ≤ 4096 = h.few_trades (opened_by h.phase b.members c.args.member h.vacant c.requires.member) in
-    let taped = h.tape.within in
+    let taped = h.taped.0 in
     let weighed = contract_weighed b.years (books_of b) c.args.member (10000000000 * h.tape.used) (λ month lt. h.weighed c.args.member month c.requires.member lt) c.args.contract c.requires.contract in
     let small : nat_abs (result_in b.years (books_of b) c.args.member c.args.contract) ≤ 40960000000000 = omega (arith, weighed, brief, taped) in
     record { is = back ∙ is; bound = subst (λ (z : ℤ). nat_abs z ≤ 40960000000000) (sym (back ∙ is)) small }

@@ -10,5 +10,5 @@ pub invariant_of-self : goal.invariant_of-self
 invariant_of-self g c =
     let t = c.args.self.now.table in
     let place = g.T.Placed.place in
-    let i : c.args.index < length (records t) = omega (arith, c.requires.there, length-take-le t.used t.places.now t.within) in
-    record { lined = ap (in_line place) c.set.ensures.records ∙ in_line_set place (records t) c.args.index c.args.x g.T.Blank.blank i c.requires.place ∙ c.args.self.now.lined }
+    let i : c.args.index < length (records t) = omega (arith, c.requires.there, length-take-le t.used t.places.now c.args.self.now.within) in
+    record { within = c.set.ensures.within; lined = ap (in_line place) c.set.ensures.records ∙ in_line_set place (records t) c.args.index c.args.x g.T.Blank.blank i c.requires.place ∙ c.args.self.now.lined }

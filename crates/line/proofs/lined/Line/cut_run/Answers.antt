@@ -10,4 +10,4 @@ invariant_of-self g c =
     let place = g.T.Placed.place in
     let r = c.args.run in
     let rs = records c.args.self.now.table in
-    record { lined = ap (in_line place) c.remove_run.ensures.records ∙ shut place (taken_out r.start r.end rs) (in_line_taken_out place r.start r.end rs c.requires.order (opened place rs c.args.self.now.lined)) }
+    record { within = c.remove_run.ensures.within; lined = ap (in_line place) c.remove_run.ensures.records ∙ shut place (taken_out r.start r.end rs) (in_line_taken_out place r.start r.end rs c.requires.order (opened place rs c.args.self.now.lined)) }

@@ -24,4 +24,4 @@ returns-in-None g c =
     let line = c.records.result.now in
     let t = c.args.self.now.table in
     let at : c.spot.result ≡ spot place (place x) line = c.spot.ensures.spot ∙ ap (spot place (place x)) (sym e) in
-    (λ _. subst (λ (l : List g.row.T.Denot). Free place x l) e (free_at_end place line x c.spot.result at (omega (arith, c.spot.ensures.within, c.in-None.ensures.lookup.3, ap length e, length-take-le t.used t.places.now t.within))), λ _. refl)
+    (λ _. subst (λ (l : List g.row.T.Denot). Free place x l) e (free_at_end place line x c.spot.result at (omega (arith, c.spot.ensures.within, c.in-None.ensures.lookup.3, ap length e, length-take-le t.used t.places.now c.args.self.now.within))), λ _. refl)

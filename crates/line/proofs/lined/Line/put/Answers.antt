@@ -12,7 +12,7 @@ invariant_of-self g c =
     let x = c.args.x in
     let rs = records c.args.self.now.table in
     let new : records c.insert.new.self ≡ entered place x rs = c.insert.ensures.records ∙ ap (λ (j : ℕ). put_in j x rs) c.spot-index.ensures.spot ∙ sym (entered_at place x rs) in
-    record { lined = ap (in_line place) new ∙ shut place (entered place x rs) (in_line_entered place x rs (opened place rs c.args.self.now.lined) c.requires.free) }
+    record { within = c.insert.ensures.within; lined = ap (in_line place) new ∙ shut place (entered place x rs) (in_line_entered place x rs (opened place rs c.args.self.now.lined) c.requires.free) }
 
 pub returns-clause-records : goal.returns-clause-records
 returns-clause-records g c =

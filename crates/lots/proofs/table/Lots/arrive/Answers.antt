@@ -14,7 +14,7 @@ returns c =
     let ls = records c.args.self.now.line.table in let rs = records c.args.results.now in
     let x = get_or rs i (pos 0) in
     let e : records c.add_result.new.results ≡ set rs i (x +ℤ earnings a ls) = search rules in
-    let lr = length-take-le c.args.results.now.used (whole c.args.results.now) c.args.results.now.within in
+    let lr = length-take-le c.args.results.now.used (whole c.args.results.now) c.requires.within in
     let lt : i < length rs = omega (arith, c.requires.there) in
     let y : get_or (records c.add_result.new.results) i (pos 0) ≡ x +ℤ earnings a ls = ap (λ zs. get_or zs i (pos 0)) e ∙ get_or-set_same rs i (x +ℤ earnings a ls) (pos 0) lt in
     let l = booked a ls x (get_or (records c.add_result.new.results) i (pos 0)) c.args.self.now.fitting c.args.self.now.sided c.args.arrival.fit y c.args.self.now.line.lined in

@@ -20,15 +20,15 @@ holding_of-one-requires c =
     let b = c.args.self.now in let t = b.line.table in
     let rs = records t in
     let from = c.spot-from.result in
-    let s = seen c.records.result.now rs from c.loop-lot.lot-index c.records.ensures (omega (arith, c.spot-from.ensures.within, ap length c.records.ensures, length-take-le t.used (whole t) t.within)) c.loop-lot-test.true in
+    let s = seen c.records.result.now rs from c.loop-lot.lot-index c.records.ensures (omega (arith, c.spot-from.ensures.within, ap length c.records.ensures, length-take-le t.used (whole t) c.args.self.now.line.within)) c.loop-lot-test.true in
     fit_at rs (from + c.loop-lot.lot-index) _ b.fitting s.there s.is
 
 pub overflow_add-held : goal.overflow_add-held
 overflow_add-held c =
     let t = c.args.self.now.line.table in
     let i = c.loop-lot.invariant in
-    let s = seen c.records.result.now (records t) c.spot-from.result c.loop-lot.lot-index c.records.ensures (omega (arith, c.spot-from.ensures.within, ap length c.records.ensures, length-take-le t.used (whole t) t.within)) c.loop-lot-test.true in
-    let few : c.loop-lot.lot-index ≤ 8192 = omega (arith, c.requires, s.there, length-take-le t.used (whole t) t.within, t.within) in
+    let s = seen c.records.result.now (records t) c.spot-from.result c.loop-lot.lot-index c.records.ensures (omega (arith, c.spot-from.ensures.within, ap length c.records.ensures, length-take-le t.used (whole t) c.args.self.now.line.within)) c.loop-lot-test.true in
+    let few : c.loop-lot.lot-index ≤ 8192 = omega (arith, c.requires, s.there, length-take-le t.used (whole t) c.args.self.now.line.within, c.args.self.now.line.within) in
     let b = i.small in let w = c.holding_of-one.ensures.small in
     omega (arith, ints)
 
@@ -36,8 +36,8 @@ pub overflow_add-held-in-loop-lot : goal.overflow_add-held-in-loop-lot
 overflow_add-held-in-loop-lot c =
     let t = c.args.self.now.line.table in
     let i = c.loop-lot.invariant in
-    let s = seen c.records.result.now (records t) c.spot-from.result c.loop-lot.lot-index c.records.ensures (omega (arith, c.spot-from.ensures.within, ap length c.records.ensures, length-take-le t.used (whole t) t.within)) c.loop-lot-test.true in
-    let few : c.loop-lot.lot-index ≤ 8192 = omega (arith, c.requires, s.there, length-take-le t.used (whole t) t.within, t.within) in
+    let s = seen c.records.result.now (records t) c.spot-from.result c.loop-lot.lot-index c.records.ensures (omega (arith, c.spot-from.ensures.within, ap length c.records.ensures, length-take-le t.used (whole t) c.args.self.now.line.within)) c.loop-lot-test.true in
+    let few : c.loop-lot.lot-index ≤ 8192 = omega (arith, c.requires, s.there, length-take-le t.used (whole t) c.args.self.now.line.within, c.args.self.now.line.within) in
     let b = i.bound in let w = c.holding_of-one.ensures.bound in
     omega (arith, ints)
 
@@ -47,13 +47,13 @@ loop-lot-preserved c =
     let rs = records t in
     let from = c.spot-from.result in
     let k = c.loop-lot.lot-index in
-    let s = seen c.records.result.now rs from k c.records.ensures (omega (arith, c.spot-from.ensures.within, ap length c.records.ensures, length-take-le t.used (whole t) t.within)) c.loop-lot-test.true in
+    let s = seen c.records.result.now rs from k c.records.ensures (omega (arith, c.spot-from.ensures.within, ap length c.records.ensures, length-take-le t.used (whole t) c.args.self.now.line.within)) c.loop-lot-test.true in
     let onward : from + k + 1 ≡ from + (k + 1) = omega arith in
     let l = lot_from c.records.result.now from k in
     let o : held_by a.member a.contract l ≡ true = and_from _ _ (eq-eqb _ _ c.if-lot-member.false) (eq-eqb _ _ c.if-lot-contract.false) in
     let n = sum_more lot_net a.member a.contract rs (from + k) l s.there s.is o ∙ ap (λ (j : ℕ). lot_net l +ℤ net a.member a.contract (drop j rs)) onward in
     let v = sum_more lot_value a.member a.contract rs (from + k) l s.there s.is o ∙ ap (λ (j : ℕ). lot_value l +ℤ value a.member a.contract (drop j rs)) onward in
-    let few : k ≤ 8192 = omega (arith, c.requires, s.there, length-take-le t.used (whole t) t.within, t.within) in
+    let few : k ≤ 8192 = omega (arith, c.requires, s.there, length-take-le t.used (whole t) c.args.self.now.line.within, c.args.self.now.line.within) in
     let ln : 2500 * k + 2500 ≤ 100000000000000 = omega arith in
     let lv : 10000000000 * k + 10000000000 ≤ 100000000000000 = omega arith in
     let bn = more c.loop-lot.held.net w.result.net _ _ _ (2500 * k) 2500 i.small w.ensures.small ln i.net (n ∙ ap (λ z. z +ℤ net a.member a.contract (drop (from + (k + 1)) rs)) (sym w.ensures.net)) in
@@ -89,7 +89,7 @@ returns-then-lot-member-clause-net c =
     let from = c.spot-from.result in let k = c.loop-lot.lot-index in
     let l = lot_from c.records.result.now from k in
     let is : from ≡ spot lot_place (first_place a.member a.contract) rs = c.spot-from.ensures.spot ∙ ap (λ p. spot lot_place p rs) c.first_key.ensures in
-    let s = seen c.records.result.now rs from k c.records.ensures (omega (arith, c.spot-from.ensures.within, ap length c.records.ensures, length-take-le t.used (whole t) t.within)) c.loop-lot-test.true in
+    let s = seen c.records.result.now rs from k c.records.ensures (omega (arith, c.spot-from.ensures.within, ap length c.records.ensures, length-take-le t.used (whole t) c.args.self.now.line.within)) c.loop-lot-test.true in
     let o : held_by a.member a.contract l ≡ false = elim c.then-lot-member.branch [
       | then-lot-member-via-then-lot-member w ↦ and_left _ _ (ne_eqb _ _ w.if-lot-member.true)
       | then-lot-member-via-else-lot-member+then-lot-contract w ↦ and_right _ _ (ne_eqb _ _ w.if-lot-contract.true)
@@ -102,7 +102,7 @@ returns-then-lot-member-clause-value c =
     let from = c.spot-from.result in let k = c.loop-lot.lot-index in
     let l = lot_from c.records.result.now from k in
     let is : from ≡ spot lot_place (first_place a.member a.contract) rs = c.spot-from.ensures.spot ∙ ap (λ p. spot lot_place p rs) c.first_key.ensures in
-    let s = seen c.records.result.now rs from k c.records.ensures (omega (arith, c.spot-from.ensures.within, ap length c.records.ensures, length-take-le t.used (whole t) t.within)) c.loop-lot-test.true in
+    let s = seen c.records.result.now rs from k c.records.ensures (omega (arith, c.spot-from.ensures.within, ap length c.records.ensures, length-take-le t.used (whole t) c.args.self.now.line.within)) c.loop-lot-test.true in
     let o : held_by a.member a.contract l ≡ false = elim c.then-lot-member.branch [
       | then-lot-member-via-then-lot-member w ↦ and_left _ _ (ne_eqb _ _ w.if-lot-member.true)
       | then-lot-member-via-else-lot-member+then-lot-contract w ↦ and_right _ _ (ne_eqb _ _ w.if-lot-contract.true)
