@@ -1,7 +1,6 @@
 -- Cutting at the first mark; a script is its first line and the lines of what stands behind it.
-use Rattle.std.proofs.Common.{◌≡◌, ◌≢◌, ℕ, zero, suc, ◌+◌, ◌<◌, ◌≤◌, false, eqb, List, [], ◌∷◌, length, get_or, take, drop, Option, Some, None, unwrap_or, Bor, inl, inr, sym, refl, ap, ◌∙◌, arith, false-eqb}
+use Rattle.std.proofs.Common.{◌≡◌, ◌≢◌, ℕ, zero, suc, ◌+◌, ◌<◌, ◌≤◌, false, eqb, List, [], ◌∷◌, length, get_or, take, drop, Some, None, unwrap_or, inl, inr, sym, refl, ap, ◌∙◌, arith, false-eqb}
 use Rattle.std.proofs.lemmas.Bool.{cases_Bool, ne_eqb, eq-eqb}
-use Rattle.std.specs.Option.{option_map}
 use Rattle.grammar.specs.Words.{before, behind, put_in_front, lines}
 
 -- the first mark stands at n
@@ -42,19 +41,13 @@ split byte (b ∷ bytes) = elim (cases_Bool (eqb byte 10)) [
   | inr other ↦ rw other (ap (put_in_front byte) (split b bytes))
 ]
 
-first_line : (text line rest : List ℕ) → 0 < length text → line ≡ before 10 text → rest ≡ unwrap_or (behind 10 text) [] → lines text ≡ line ∷ lines rest
+pub first_line : (text line rest : List ℕ) → 0 < length text → line ≡ before 10 text → rest ≡ unwrap_or (behind 10 text) [] → lines text ≡ line ∷ lines rest
 first_line [] line rest some front back = absurd (omega arith)
 first_line (byte ∷ bytes) line rest some front back = rw (front, back) (split byte bytes)
 
-now_or_none : (left : Option (Bor (List ℕ))) (none : Bor (List ℕ)) → none.now ≡ [] → (unwrap_or left none).now ≡ unwrap_or (option_map (λ x. x.now) left) []
-now_or_none None none e = e
-now_or_none (Some x) none e = refl
-
 -- what a call of `next` gives and leaves
-pub next_line : (all : List (List ℕ)) (text line : List ℕ) (left : Option (Bor (List ℕ))) (rest none : Bor (List ℕ)) → lines text ≡ all → false ≡ eqb (length text) 0 → line ≡ before 10 text → option_map (λ x. x.now) left ≡ behind 10 text → rest ≡ unwrap_or left none → none.now ≡ [] → all ≡ line ∷ lines rest.now
-next_line all text line left rest none is some front back kept e =
-    let behind_it = ap (λ x. x.now) kept ∙ now_or_none left none e ∙ ap (λ x. unwrap_or x []) back in
-    sym is ∙ first_line text line rest.now (omega (arith, false-eqb (length text) 0 some)) front behind_it
+pub next_line : (all : List (List ℕ)) (text line rest : List ℕ) → lines text ≡ all → false ≡ eqb (length text) 0 → line ≡ before 10 text → rest ≡ unwrap_or (behind 10 text) [] → all ≡ line ∷ lines rest
+next_line all text line rest is some front back = sym is ∙ first_line text line rest (omega (arith, false-eqb (length text) 0 some)) front back
 
 fewer : (byte : ℕ) (ls : List (List ℕ)) → length (put_in_front byte ls) ≤ length ls + 1
 fewer byte [] = omega arith

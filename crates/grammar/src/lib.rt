@@ -12,4 +12,4 @@ pub use commands::{Command, Lending, VaultKind, What};
 pub use forms::Form;
 pub use kinds::{begun_after, is_copied, lent_by};
 pub use numbers::number_up_to;
-pub use words::Lines;
+pub use words::{Lines, first_line};

@@ -1,7 +1,7 @@
 // Lines and words: what stands between marks. A doubled space, or one in front or behind, makes an empty word.
-ghost use Rattle.std.specs.Prelude.{◌≡◌, None, is_none};
+ghost use Rattle.std.specs.Prelude.{◌≡◌, None, is_none, []};
 ghost use Rattle.std.specs.Iterator.{YieldsFirstRef, item_count};
-ghost use Rattle.std.specs.Option.{option_map};
+ghost use Rattle.std.specs.Option.{option_map, unwrap_or};
 ghost use Rattle.grammar.specs.Words.{before, behind, lines, next_word, next_number};
 ghost use Rattle.grammar.specs.Arguments.{next_length};
 
@@ -24,6 +24,15 @@ fn cut(mark: u8, bytes: &[u8]) -> (&[u8], Option<&[u8]>)
         Some(at) => (&bytes[..at], Some(&bytes[at + 1..])),
         None => (bytes, None),
     }
+}
+
+// The first line of a text without its end, and the text behind it.
+pub fn first_line(text: &[u8]) -> (&[u8], &[u8])
+    ensures front { result.0.now ≡ before 10 text.now }
+    ensures back { result.1.now ≡ unwrap_or (behind 10 text.now) [] }
+{
+    let (line, behind) = cut(NEWLINE, text);
+    (line, behind.unwrap_or(&[]))
 }
 
 // The lines of a text, each without its end. A contract sees those that are still to come.
@@ -60,8 +69,8 @@ impl<'a> Iterator for Lines<'a> {
         if self.rest.is_empty() {
             return None;
         }
-        let (line, behind) = cut(NEWLINE, self.rest);
-        self.rest = behind.unwrap_or(&[]);
+        let (line, behind) = first_line(self.rest);
+        self.rest = behind;
         Some(line)
     }
 }

@@ -1,11 +1,11 @@
-use Rattle.std.proofs.Common.{length, refl, ap, arith}
+use Rattle.std.proofs.Common.{length, ap, arith}
 use Rattle.grammar.proofs.Cutting.{next_line}
 use Rattle.grammar.proofs.words.LinesIterator.next.Goals as goal
 
 pub returns-clause-steps : goal.returns-clause-steps
-returns-clause-steps c = next_line _ _ _ _ _ _ c.self.view_is c.if-is_empty.ensures c.cut.ensures.front c.cut.ensures.back c.unwrap_or-self-inside.ensures refl
+returns-clause-steps c = next_line _ _ _ _ c.self.view_is c.if-is_empty.ensures c.first_line.ensures.front c.first_line.ensures.back
 
 pub returns-clause-goes : goal.returns-clause-goes
 returns-clause-goes c =
-    let gives = next_line _ _ _ _ _ _ c.self.view_is c.if-is_empty.ensures c.cut.ensures.front c.cut.ensures.back c.unwrap_or-self-inside.ensures refl in
+    let gives = next_line _ _ _ _ c.self.view_is c.if-is_empty.ensures c.first_line.ensures.front c.first_line.ensures.back in
     record { on = λ _. (tt, tt, omega (arith, ap length gives)); keeps = tt; rests = λ _. tt }
