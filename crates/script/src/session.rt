@@ -141,10 +141,8 @@ impl<'a, V: Vault + Drop> Session<'a, V> {
             What::Orders => house.orders().len(),
             What::Lots => house.lots().len(),
             What::Tape => house.tape().len(),
-            What::Results => house.results().iter().filter(|value| **value != 0).count(),
-            What::Balances => accounts()
-                .filter(|account| vault.balance(*account) != 0)
-                .count(),
+            What::Results => results_other_than_0(house.results()),
+            What::Balances => balances_other_than_0(vault),
             What::Phase => 0,
         }
     }
@@ -193,4 +191,25 @@ impl<'a, V: Vault + Drop> Session<'a, V> {
 
 fn accounts() -> Range<u8> {
     0..ACCOUNTS as u8
+}
+
+// Two counts by hand: `filter` with `count` takes twice the time.
+fn results_other_than_0(results: &[i64]) -> usize {
+    let mut n = 0;
+    for result in results {
+        if *result != 0 {
+            n += 1;
+        }
+    }
+    n
+}
+
+fn balances_other_than_0<V: Vault>(vault: &V) -> usize {
+    let mut n = 0;
+    for account in 0..ACCOUNTS {
+        if vault.balance(account as u8) != 0 {
+            n += 1;
+        }
+    }
+    n
 }
