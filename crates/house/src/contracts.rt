@@ -1,6 +1,6 @@
 // The contracts of a house: finding one by its number, and its state and price record.
 ghost use Rattle.std.specs.Prelude.{◌≡◌, ◌+◌, ◌*◌, ◌<◌, ◌≤◌, true, IfOk, Some, map};
-ghost use Rattle.market.specs.Calendar.{contract_of, in_house};
+ghost use Rattle.market.specs.Calendar.{contract_of, contract_at, in_house};
 ghost use Rattle.market.specs.declared.state.ContractState.TheVariants.{Unlisted};
 ghost use Rattle.vault.specs.Checks.{first_that_holds};
 ghost use Rattle.history.specs.Standing.{no_price, state_of, price_of, with_contract, with_state, past_inside};
@@ -33,6 +33,14 @@ impl House<'_> {
         ensures within { IfOk result (λ c. in_house self.now.books.years c ≡ true) }
     {
         Contract::of(number, self.books.years).ok_or(Refusal::Contract)
+    }
+
+    // The contract of a slot.
+    pub(crate) fn contract_at(&self, slot: usize) -> Contract
+        requires { slot < 17 * self.now.books.years }
+        ensures { result ≡ contract_at self.now.books.years slot }
+    {
+        Contract::at(slot, self.books.years)
     }
 
     // Its state.

@@ -78,7 +78,7 @@ impl House<'_> {
         let years = self.books.years;
         let mut total: i128 = 0;
         for slot in 0..Contract::count(years) {
-            total += self.adds(rule, member, Contract::at(slot, years));
+            total += self.adds(rule, member, self.contract_at(slot));
         }
         total
     }

@@ -11,7 +11,7 @@ pub adds-total-requires : goal.adds-total-requires
 adds-total-requires g c =
     let years = c.args.self.now.books.years in
     let own = (slots_held years c.loop-slot.slot (omega (arith, c.loop-slot-test.true, c.count-slot-end.ensures))).0 in
-    record { member = c.requires; contract = ap (in_house years) c.at.ensures ∙ own }
+    record { member = c.requires; contract = ap (in_house years) c.contract_at.ensures ∙ own }
 
 pub loop-slot-preserved : goal.loop-slot-preserved
 loop-slot-preserved g c =
@@ -21,7 +21,7 @@ loop-slot-preserved g c =
     let few = h.books.few in
     let below : at < 17 * h.books.years = omega (arith, c.loop-slot-test.true, c.count-slot-end.ensures) in
     let room : 148800000000000000 * at + 148800000000000000 ≤ 100000000000000000000 = omega (arith, few, below) in
-    let is : c.adds-total.result ≡ contract_adds units (view h) c.args.member (contract_at h.books.years at) = c.adds-total.ensures.is ∙ ap (contract_adds units (view h) c.args.member) c.at.ensures in
+    let is : c.adds-total.result ≡ contract_adds units (view h) c.args.member (contract_at h.books.years at) = c.adds-total.ensures.is ∙ ap (contract_adds units (view h) c.args.member) c.contract_at.ensures in
     let next = slots_next units (view h) c.args.member at (17 * h.books.years) below ∙ ap (λ z. z +ℤ slots_add units (view h) c.args.member (at + 1) (17 * h.books.years - (at + 1))) (sym is) in
     let more = more_128 _ c.adds-total.result _ _ _ (148800000000000000 * at) 148800000000000000 c.loop-slot.invariant.0 c.adds-total.ensures.bound room c.loop-slot.invariant.1 next in
     let low = more.0 in
