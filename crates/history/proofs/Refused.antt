@@ -1,17 +1,8 @@
 -- What a refusal means to a call of the house.
-use Rattle.std.proofs.Common.{◌≡◌, ℕ, Bool, true, false, cond, not, List, [], ◌∷◌, ◌++◌, is_some, Some, None, Ok, Err, Option, Result, sym, refl, ap, ◌∙◌, subst, arith}
-use Rattle.vault.specs.Cash.{Cash, Moved, balance, debited}
-use Rattle.vault.specs.Cash as vault
-use Rattle.vault.specs.declared.faults.Fault.{Fault}
+use Rattle.std.proofs.Common.{◌≡◌, ℕ, Bool, true, false, cond, List, [], ◌∷◌, ◌++◌, Some, None, Option, Result, refl, ap, ◌∙◌, arith}
 use Rattle.vault.specs.Checks.{first_that_holds}
-use Rattle.margin.specs.Units.{Units}
-use Rattle.market.specs.declared.phase.Phase.{Phase}
 use Rattle.market.specs.declared.refusal.Refusal.{Refusal}
-use Rattle.market.specs.declared.refusal.Refusal.TheVariants as no
-use Rattle.market.specs.declared.phase.Event.TheVariants as event
-use Rattle.history.specs.State.{State, Now, beside}
-use Rattle.history.specs.Cover.{requirement, leaves_too_little}
-use Rattle.history.specs.Calls.{outcome, unless_refused, Admits, refusal, answer_unless, not_taken, led_or_refused, no_such_member, known_or_refused, vault_refuses, withdrawing}
+use Rattle.history.specs.Calls.{outcome, unless_refused, refusal}
 
 -- a call's refusal is the first reason that holds
 pub refusal_is : {X : Type 0} (why : Option Refusal) (before after left : X) (r : Result (Unit {0}) Refusal) → outcome r left ≡ unless_refused why before after → refusal r ≡ why
