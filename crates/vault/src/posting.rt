@@ -84,11 +84,12 @@ impl Vault for Journal<'_> {
     fn credit(&mut self, account: u8, amount: u64) -> Result<(), Fault>
         ensures { Posts self.old self.new result (λ c. credited c account amount) (credit_entry account amount) }
     {
-        self.post(Movement {
+        let credit = Movement {
             direction: Direction::Credit,
             account,
             amount,
-        })
+        };
+        self.post(credit)
     }
 
     fn debit(&mut self, account: u8, amount: u64) -> Result<(), Fault>
