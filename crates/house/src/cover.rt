@@ -61,8 +61,8 @@ impl House<'_> {
                     .added(rule, &opening, gas_days)
             }
             ContractState::Delivering => {
-                let gas_days = contract.gas_days(self.first_year);
-                self.position(member, contract).loss(gas_days) as i128
+                self.position(member, contract)
+                    .loss(contract.gas_days(self.first_year)) as i128
             }
             ContractState::Unlisted | ContractState::Ended => 0,
         }
